@@ -1,0 +1,10 @@
+pub mod Base
+pub mod Refusals
+pub mod Geometry
+pub mod Layout
+pub mod Bits
+pub mod Words
+pub mod Lookup
+pub mod Prediction
+pub mod Frame
+pub mod Alone

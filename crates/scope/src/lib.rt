@@ -1,0 +1,42 @@
+// The types that every statement of this project speaks of. What they mean, and the whole of document 01, stands in
+// specs/: a file for each of its headings. This crate has no function.
+
+// Document 01, "What comes in": Gray has 1 plane, Rgb and Yuv have 3, Rgba and Yuva have 4.
+pub enum Family {
+    Gray,
+    Rgb,
+    Yuv,
+    Rgba,
+    Yuva,
+}
+
+// What the host read from the header: specs/Geometry.antt has the rules that each number must keep.
+pub struct Geometry {
+    pub width: usize,
+    pub height: usize,
+    pub slice_height: usize,
+    pub family: Family,
+    pub sx: usize,
+    pub sy: usize,
+    pub depth: usize,
+    pub interlaced: bool,
+}
+
+// Where a refusal stands: at a slice, at a plane, or nowhere in particular.
+pub enum Place {
+    Slice(usize),
+    Plane(usize),
+    Nothing,
+}
+
+// What a function of the product answers. A refusal holds its number in document 01's table, and its place.
+pub enum Answer {
+    Done,
+    Refused(u32, Place),
+}
+
+// What the lookup finds at a bit position: a word's length and symbol, or no word.
+pub enum Found {
+    Word { length: usize, symbol: usize },
+    NoWord,
+}

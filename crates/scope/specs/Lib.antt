@@ -8,3 +8,4 @@ pub mod Lookup
 pub mod Prediction
 pub mod Frame
 pub mod Alone
+pub mod Known

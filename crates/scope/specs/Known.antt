@@ -2,7 +2,7 @@
 -- document 01 wants proved. The rows without one are its other answers, and rows of our own for what a slip could get wrong
 -- ("Slips to shut out"). Assumes nothing.
 use mathlib.Core.Path.{_≡_}
-use Prim.Native.Nat.{ℕ, zero, suc, _+_, _*_}
+use Prim.Native.Nat.{ℕ, zero, suc, _+_, _-_, _*_}
 use mathlib.Core.Bool.{Bool, true, false, cond, _&&_}
 use mathlib.Core.List.{List, [], _∷_, _++_}
 use lib.ListN.{length, take, set, replicate}
@@ -115,6 +115,24 @@ bands =
     ∷ 1 ∷ 1 ∷ 9
     ∷ 1 ∷ 1 ∷ 1 ∷ 1 ∷ 1 ∷ 1 ∷ []))))))
 
+-- Gray 3×1 with one coded slice of predictor Left, whose payload is the byte 8C, under lengths 1,2,2 and no other word
+unfoldable pub coded : List ℕ
+coded = replicate 36 0 ++ le 10 (1 ∷ 0 ∷ 0 ∷ 1 ∷ 0x8C ∷ [])
+
+unfoldable pub codedSays : List ℕ → ℕ → List ℕ
+codedSays ls workspace =
+    let lengths : List ℕ = ls ++ replicate (256 - length ls) 0 in
+    said (answerOf false coded (plain Gray 3 1 1 false) lengths 3 workspace)
+    ++ planesAfter false coded (plain Gray 3 1 1 false) lengths (9 ∷ 9 ∷ 9 ∷ []) workspace
+    ++ workspaceAfter false coded (plain Gray 3 1 1 false) lengths 3 (replicate workspace 9)
+
+-- Gray 2×1 of depth 10 with one raw slice of predictor Left, bytes FF C0 10: residues 1023 and 1; by each of the two entries
+unfoldable pub deepSays : Bool → List ℕ
+deepSays deep =
+    let g : Geometry = record { width = 2; height = 1; «slice_height» = 1; family = Gray; sx = 1; sy = 1; depth = 10; interlaced = false } in
+    let frame : List ℕ = replicate 36 0 ++ le 10 (1 ∷ 0 ∷ 1 ∷ 1 ∷ 0xFF ∷ 0xC0 ∷ 0x10 ∷ []) in
+    said (answerOf deep frame g (replicate 1024 0) 2 1) ++ planesAfter deep frame g (replicate 1024 0) (9 ∷ 9 ∷ []) 1
+
 -- ---- the table
 
 unfoldable pub known : List Row
@@ -198,6 +216,22 @@ known =
     -- rows of one column, progressive and in two fields
     ∷ (decoded five (plain Gray 1 5 5 false) 5 256 is 0 ∷ 0 ∷ 0 ∷ 1 ∷ 3 ∷ 6 ∷ 10 ∷ 15 ∷ [])
     ∷ (decoded five (plain Gray 1 5 5 true) 5 256 is 0 ∷ 0 ∷ 0 ∷ 1 ∷ 2 ∷ 4 ∷ 6 ∷ 9 ∷ [])
+    -- a coded slice: residues 0, 1, 2 give 0, 1, 3; the workspace is zero after it
+    ∷ (codedSays (1 ∷ 2 ∷ 2 ∷ []) 4 is 0 ∷ 0 ∷ 0 ∷ 0 ∷ 1 ∷ 3 ∷ 0 ∷ 0 ∷ 0 ∷ 0 ∷ [])
+    -- 9 and 10 at the plane, 11 with one workspace word too few, 12 by size (3 samples of 3 bits), 14 where no word fits
+    ∷ (codedSays (1 ∷ 2 ∷ 19 ∷ []) 4 is 9 ∷ 2 ∷ 0 ∷ 0 ∷ 0 ∷ 0 ∷ 0 ∷ 0 ∷ 0 ∷ 0 ∷ [])
+    ∷ (codedSays (1 ∷ 2 ∷ 2 ∷ 2 ∷ []) 4 is 10 ∷ 2 ∷ 0 ∷ 0 ∷ 0 ∷ 0 ∷ 0 ∷ 0 ∷ 0 ∷ 0 ∷ [])
+    ∷ (codedSays (1 ∷ 2 ∷ 2 ∷ []) 3 is 11 ∷ 0 ∷ 0 ∷ 0 ∷ 0 ∷ 0 ∷ 0 ∷ 0 ∷ 0 ∷ [])
+    ∷ (codedSays (3 ∷ 3 ∷ 3 ∷ []) 8 is 12 ∷ 1 ∷ 0 ∷ 0 ∷ 0 ∷ 0 ∷ 0 ∷ 0 ∷ 0 ∷ 0 ∷ 0 ∷ 0 ∷ 0 ∷ 0 ∷ [])
+    ∷ (codedSays (2 ∷ 2 ∷ []) 4 is 14 ∷ 2 ∷ 0 ∷ 0 ∷ 0 ∷ 0 ∷ 0 ∷ 0 ∷ 0 ∷ 0 ∷ [])
+    -- depth 10 by its own entry: 1023, 0; by the other it is refusal 1, which leaves the planes as found
+    ∷ (deepSays true is 0 ∷ 0 ∷ 0 ∷ 1023 ∷ 0 ∷ [])
+    ∷ (deepSays false is 1 ∷ 0 ∷ 0 ∷ 9 ∷ 9 ∷ [])
+    -- 2 and 3: factors that do not divide the height, or the slice height; 5: a frame of 39 bytes; 13: a slice of one byte
+    ∷ (said (lentChecks false (record { width = 2; height = 3; «slice_height» = 4; family = Yuv; sx = 2; sy = 2; depth = 8; interlaced = false }) 0 0) is 2 ∷ 0 ∷ 0 ∷ [])
+    ∷ (said (lentChecks false (record { width = 2; height = 6; «slice_height» = 3; family = Yuv; sx = 2; sy = 2; depth = 8; interlaced = false }) 0 0) is 3 ∷ 0 ∷ 0 ∷ [])
+    ∷ (tinySays (take 39 tiny) is 5 ∷ 0 ∷ 0 ∷ 0 ∷ 0 ∷ [])
+    ∷ (tinySays (take 43 tiny) is 13 ∷ 1 ∷ 0 ∷ 0 ∷ 0 ∷ [])
     -- a cut last place of a subsampled plane, with the slices out of plane order
     ∷ (decoded bands half 18 768
     is 0 ∷ 0 ∷ 0 ∷ 1 ∷ 2 ∷ 2 ∷ 3 ∷ 3 ∷ 4 ∷ 4 ∷ 5 ∷ 1 ∷ 2 ∷ 2 ∷ 3 ∷ 1 ∷ 2 ∷ 7 ∷ 1 ∷ 2 ∷ 9 ∷ [])
@@ -214,5 +248,5 @@ unfolding count sumBelow listFrom grown inOrder leftBy
     gradient clampMedian t87Median median predictor prediction sample samplesOf plus
     lentChecks preambleChecks indexCheck lengthCheck needOfAll fewestBytes sliceCheck residuesOf readable symbolsOf readCheck frameChecks readChecks sliceSamples planeUpTo wirePlane bufferPlane planesUpTo pictureOf restOf answerOf planesAfter workspaceAfter
     buildAnswer workspaceBuilt readAnswer samplesRead workspaceRead
-    wordsBelow wordsOf found read said plain le decoded tiny tinySays colours five half bands known
+    wordsBelow wordsOf found read said plain le decoded tiny tinySays colours five half bands coded codedSays deepSays known
 known-answers = tt

@@ -1,0 +1,117 @@
+-- Demand 1, proved from the statement of the frame entries.
+use mathlib.Core.Path.{_≡_, refl, sym, ap, _∙_}
+use Prim.Native.Nat.{ℕ, zero, suc, _≤_, _<_}
+use mathlib.Core.Bool.{Bool, true, false}
+use mathlib.Core.List.{List}
+use native.Mathlib.Omega.{arith}
+use borrow.Author.Tests.{le-leb, lt-leb}
+use lib.Dec.{leb}
+use lib.ListN.{length, replicate}
+use Rattle.scope.specs.Base.{zeros}
+use Rattle.scope.specs.Refusals.{numberOf, leftBy}
+use Rattle.scope.specs.Frame.{answerOf, pictureOf, planesAfter, workspaceAfter, Decoded}
+use Rattle.scope.specs.declared.Geometry.{Geometry}
+use Rattle.scope.specs.declared.Place.{Place}
+use Rattle.scope.specs.declared.Answer.{Answer}
+use Rattle.scope.specs.declared.Answer.the-variants.{Done, Refused}
+use Rattle.refusals.specs.Rows.{Every, LentRows, FrameRows}
+use Rattle.refusals.specs.Memory.{Outcome, Accounted, Forgotten, Demand1}
+use Rattle.refusals.proofs.Rows.{every-answer}
+
+-- ---- no number above 15, and none that is 0
+abbrev Numbered : ℕ → Place → Type 0
+Numbered n p = (1 ≤ n) × (n ≤ 15)
+
+numbered : (deep : Bool) (frame : List ℕ) (g : Geometry) (lengths : List ℕ) (planes w : ℕ) → Every Numbered (answerOf deep frame g lengths planes w)
+numbered deep frame g lengths planes w =
+    every-answer Numbered frame g lengths
+    (record { row5 = (omega arith, omega arith); row6 = (omega arith, omega arith); row7 = (omega arith, omega arith); row8 = λ s l. (omega arith, omega arith); row9 = λ q l. (omega arith, omega arith); row10 = λ q l. (omega arith, omega arith); row11 = (omega arith, omega arith); row12 = λ s l. (omega arith, omega arith); row13 = λ s l. (omega arith, omega arith); row14 = λ s l. (omega arith, omega arith); row15 = λ s l. (omega arith, omega arith) })
+    deep planes w (record { row1 = (omega arith, omega arith); row2 = (omega arith, omega arith); row3 = (omega arith, omega arith); row4 = (omega arith, omega arith) })
+
+number-small : (a : Answer) → Every Numbered a → numberOf a ≤ 15
+unfolding Every
+number-small Done h = omega arith
+number-small (Refused n p) h = h .1
+
+-- ---- what an answer leaves, by its number
+left-done : (a : Answer) (found good : List ℕ) → Every Numbered a → numberOf a ≡ 0 → leftBy 4 a found good ≡ good
+unfolding leftBy Every
+left-done Done found good h e = refl
+left-done (Refused n p) found good h e = absurd (omega (arith, e, h .0))
+
+left-found : (a : Answer) (found good : List ℕ) → 0 < numberOf a → numberOf a ≤ 4 → leftBy 4 a found good ≡ found
+unfolding leftBy
+left-found Done found good l h = absurd (omega (arith, l))
+left-found (Refused n p) found good l h = rw (le-leb n 4 h)
+
+left-cleared : (a : Answer) (found good : List ℕ) → 4 < numberOf a → leftBy 4 a found good ≡ zeros found
+unfolding leftBy
+left-cleared Done found good h = absurd (omega (arith, h))
+left-cleared (Refused n p) found good h = rw (lt-leb n 4 h)
+
+-- ---- one outcome
+module _ (deep : Bool) (frame : List ℕ) (g : Geometry) (lengths planes₀ workspace₀ : List ℕ) (r : Answer) (planes₁ workspace₁ : List ℕ) (d : Decoded deep frame g lengths planes₀ workspace₀ r planes₁ workspace₁) where
+  fine : Every Numbered r
+  fine = rw (d .answer) (numbered deep frame g lengths (length planes₀) (length workspace₀))
+
+  planes-are : planes₁ ≡ leftBy 4 r planes₀ (pictureOf frame g lengths)
+  unfolding planesAfter
+  planes-are = rw (d .answer) (d .planes)
+
+  workspace-is : workspace₁ ≡ leftBy 4 r workspace₀ (zeros workspace₀)
+  unfolding workspaceAfter
+  workspace-is = rw (d .answer) (d .workspace)
+
+  when-done : numberOf r ≡ 0 → (planes₁ ≡ pictureOf frame g lengths) × (workspace₁ ≡ zeros workspace₀)
+  when-done e =
+      (planes-are ∙ left-done r planes₀ (pictureOf frame g lengths) fine e, workspace-is ∙ left-done r workspace₀ (zeros workspace₀) fine e)
+
+  when-found : 0 < numberOf r → numberOf r ≤ 4 → (planes₁ ≡ planes₀) × (workspace₁ ≡ workspace₀)
+  when-found l h =
+      (planes-are ∙ left-found r planes₀ (pictureOf frame g lengths) l h, workspace-is ∙ left-found r workspace₀ (zeros workspace₀) l h)
+
+  when-cleared : 4 < numberOf r → (planes₁ ≡ zeros planes₀) × (workspace₁ ≡ zeros workspace₀)
+  when-cleared h =
+      (planes-are ∙ left-cleared r planes₀ (pictureOf frame g lengths) h, workspace-is ∙ left-cleared r workspace₀ (zeros workspace₀) h)
+
+module _ (deep : Bool) (frame : List ℕ) (g : Geometry) (lengths : List ℕ) where
+  account : (o : Outcome deep frame g lengths) → Accounted deep frame g lengths o
+  account o =
+      record {
+        number = number-small (o .answer) (fine deep frame g lengths _ _ _ _ _ (o .allowed));
+        exact = o .allowed .answer;
+        done = when-done deep frame g lengths _ _ _ _ _ (o .allowed);
+        found = when-found deep frame g lengths _ _ _ _ _ (o .allowed);
+        cleared = when-cleared deep frame g lengths _ _ _ _ _ (o .allowed);
+      }
+
+  -- ---- two outcomes
+  module _ (o u : Outcome deep frame g lengths) (ep : length (o .planes₀) ≡ length (u .planes₀)) (ew : length (o .workspace₀) ≡ length (u .workspace₀)) where
+    same-answer : o .answer ≡ u .answer
+    same-answer =
+        o .allowed .answer
+        ∙ ap (λ (n : ℕ). answerOf deep frame g lengths n (length (o .workspace₀))) ep
+        ∙ ap (λ (n : ℕ). answerOf deep frame g lengths (length (u .planes₀)) n) ew
+        ∙ sym (u .allowed .answer)
+
+    same-number : numberOf (u .answer) ≡ numberOf (o .answer)
+    same-number = ap numberOf (sym same-answer)
+
+    forget : Forgotten deep frame g lengths o u
+    forget =
+        record {
+          answers = same-answer;
+          done = λ e.
+              let a : (o .planes₁ ≡ pictureOf frame g lengths) × (o .workspace₁ ≡ zeros (o .workspace₀)) = account o .done e in
+              let b : (u .planes₁ ≡ pictureOf frame g lengths) × (u .workspace₁ ≡ zeros (u .workspace₀)) = account u .done (same-number ∙ e) in
+              (a .0 ∙ sym (b .0), a .1 ∙ ap (λ (n : ℕ). replicate n 0) ew ∙ sym (b .1));
+          cleared = λ h.
+              let k : 4 < numberOf (u .answer) = omega (arith, h, same-number) in
+              let a : (o .planes₁ ≡ zeros (o .planes₀)) × (o .workspace₁ ≡ zeros (o .workspace₀)) = account o .cleared h in
+              let b : (u .planes₁ ≡ zeros (u .planes₀)) × (u .workspace₁ ≡ zeros (u .workspace₀)) = account u .cleared k in
+              (a .0 ∙ ap (λ (n : ℕ). replicate n 0) ep ∙ sym (b .0), a .1 ∙ ap (λ (n : ℕ). replicate n 0) ew ∙ sym (b .1));
+        }
+
+-- Demand 1
+pub demand-1 : Demand1
+demand-1 = record { accounted = account; forgotten = forget }

@@ -1,0 +1,10 @@
+pub mod Windows
+pub mod Counts
+pub mod Words
+pub mod Kraft
+pub mod Accumulator
+pub mod Heads
+pub mod Lists
+pub mod Lookup
+pub mod Chains
+pub mod Sizes

@@ -25,7 +25,7 @@ Numbered n p = (1 ≤ n) × (n ≤ 15)
 numbered : (deep : Bool) (frame : List ℕ) (g : Geometry) (lengths : List ℕ) (planes w : ℕ) → Every Numbered (answerOf deep frame g lengths planes w)
 numbered deep frame g lengths planes w =
     every-answer Numbered frame g lengths
-    (record { row5 = (omega arith, omega arith); row6 = (omega arith, omega arith); row7 = (omega arith, omega arith); row8 = λ s l. (omega arith, omega arith); row9 = λ q l. (omega arith, omega arith); row10 = λ q l. (omega arith, omega arith); row11 = (omega arith, omega arith); row12 = λ s l. (omega arith, omega arith); row13 = λ s l. (omega arith, omega arith); row14 = λ s l. (omega arith, omega arith); row15 = λ s l. (omega arith, omega arith) })
+    (record { row5 = (omega arith, omega arith); row6 = (omega arith, omega arith); row7 = (omega arith, omega arith); row8 = λ s l. (omega arith, omega arith); row9 = λ q l. (omega arith, omega arith); row10 = λ q l. (omega arith, omega arith); row11 = (omega arith, omega arith); row12 = λ s l. (omega arith, omega arith); row13 = λ s l. (omega arith, omega arith); row14 = λ s l i. (omega arith, omega arith); row15 = λ s l. (omega arith, omega arith) })
     deep planes w (record { row1 = (omega arith, omega arith); row2 = (omega arith, omega arith); row3 = (omega arith, omega arith); row4 = (omega arith, omega arith) })
 
 number-small : (a : Answer) → Every Numbered a → numberOf a ≤ 15

@@ -29,7 +29,7 @@ pub rest-late : (frame : List ℕ) (g : Geometry) (lengths : List ℕ) (w : ℕ)
 rest-late frame g lengths w a n p ea h =
     every-refused (Side false) (restOf frame g lengths w) n p
     (every-rest (Side false) frame g lengths
-    (record { row5 = refl; row6 = refl; row7 = refl; row8 = λ s l. refl; row9 = λ q l. refl; row10 = λ q l. refl; row11 = refl; row12 = λ s l. refl; row13 = λ s l. refl; row14 = λ s l. refl; row15 = λ s l. refl }) w)
+    (record { row5 = refl; row6 = refl; row7 = refl; row8 = λ s l. refl; row9 = λ q l. refl; row10 = λ q l. refl; row11 = refl; row12 = λ s l. refl; row13 = λ s l. refl; row14 = λ s l i. refl; row15 = λ s l. refl }) w)
     (sym ea ∙ h)
 
 module _ (deep : Bool) (frame : List ℕ) (g : Geometry) (lengths planes workspace : List ℕ) (a : Answer) (ea : a ≡ lentChecks deep g (length lengths) (length planes)) where

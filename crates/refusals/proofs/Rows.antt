@@ -4,6 +4,7 @@ use Prim.Native.Nat.{ℕ, zero, suc, _+_, _-_, _*_, _^_, _≤_, _<_}
 use mathlib.Core.Bool.{Bool, true, false, not, _&&_}
 use mathlib.Core.List.{List}
 use native.Mathlib.Omega.{arith}
+use borrow.Author.Tests.{leb-false}
 use lib.Dec.{eqb, ltb, leb}
 use lib.ListN.{length}
 use Rattle.scope.specs.Refusals.{refuseIf, _andThen_, inOrder}
@@ -17,6 +18,32 @@ use Rattle.scope.specs.declared.Place.the-variants.{Slice, Plane, Nothing}
 use Rattle.scope.specs.declared.Answer.{Answer}
 use Rattle.scope.specs.declared.Answer.the-variants.{Done, Refused}
 use Rattle.refusals.specs.Rows.{Every, LentRows, FrameRows}
+use Rattle.refusals.proofs.InOrder.{first-passed, then-passed, each-passed}
+
+-- ---- the indices, once they have passed
+
+one-fails : (a b : Bool) (n : ℕ) (p : Place) → Done ≡ (refuseIf a n p andThen refuseIf b n p) → (a ≡ false) × (b ≡ false)
+one-fails false false n p e = (refl, refl)
+one-fails true b n p e = (cc, cc)
+one-fails false true n p e = (cc, cc)
+
+-- slice s names a plane, and that plane has fewer than K slices before it
+pub index-below : (frame : List ℕ) (g : Geometry) (s : ℕ) → Done ≡ indexCheck frame g s → planeIndex frame g s < planeCount g
+unfolding indexCheck
+index-below frame g s e =
+    leb-false _ _ (one-fails (leb (planeCount g) (planeIndex frame g s)) (leb (slicesPerPlane g) (placeInPlane frame g s)) 8 (Slice s) e .0)
+
+pub index-room : (frame : List ℕ) (g : Geometry) (s : ℕ) → Done ≡ indexCheck frame g s → placeInPlane frame g s < slicesPerPlane g
+unfolding indexCheck
+index-room frame g s e =
+    leb-false _ _ (one-fails (leb (planeCount g) (planeIndex frame g s)) (leb (slicesPerPlane g) (placeInPlane frame g s)) 8 (Slice s) e .1)
+
+-- what the checks of a frame have passed when all have
+pub indices-passed : (frame : List ℕ) (g : Geometry) (lengths : List ℕ) (w : ℕ) → Done ≡ frameChecks frame g lengths w → Done ≡ inOrder (sliceCount g) (indexCheck frame g)
+unfolding frameChecks
+indices-passed frame g lengths w e = first-passed (inOrder (sliceCount g) (indexCheck frame g)) _ (then-passed (preambleChecks frame g) _ e)
+
+-- ---- every answer
 
 module _ (Q : ℕ → Place → Type 0) where
   -- one check, a check and more, and checks in order
@@ -29,6 +56,11 @@ module _ (Q : ℕ → Place → Type 0) where
   unfolding Every
   every-then Done b ha hb = hb
   every-then (Refused n p) b ha hb = ha
+
+  pub every-next : (a b : Answer) → Every Q a → (Done ≡ a → Every Q b) → Every Q (a andThen b)
+  unfolding Every
+  every-next Done b ha hb = hb refl
+  every-next (Refused n p) b ha hb = ha
 
   every-one : (t : Bool) (n : ℕ) (p : Place) (b : Answer) → Q n p → Every Q b → Every Q (refuseIf t n p andThen b)
   every-one t n p b h hb = every-then (refuseIf t n p) b (every-if t n p h) hb
@@ -71,39 +103,40 @@ module _ (Q : ℕ → Place → Type 0) where
         every-one (tooLong (lengthsOf g lengths p)) 9 (Plane p) _ (q .row9 p l)
         (every-if (overfull (lengthsOf g lengths p)) 10 (Plane p) (q .row10 p l))
 
-    every-slice : (s : ℕ) → s < sliceCount g → Every Q (sliceCheck frame g lengths s)
+    every-slice : (s : ℕ) → s < sliceCount g → planeIndex frame g s < planeCount g → Every Q (sliceCheck frame g lengths s)
     unfolding sliceCheck
-    every-slice s l =
+    every-slice s l i =
         every-one (ltb (sliceEnd frame g s) (sliceStart frame g s)) 12 (Slice s) _ (q .row12 s l)
         (every-one (ltb (length frame) (sliceEnd frame g s)) 12 (Slice s) _ (q .row12 s l)
         (every-one (ltb (sliceEnd frame g s) (sliceStart frame g s + 2)) 13 (Slice s) _ (q .row13 s l)
-        (every-one (not (isRaw frame g s) && eqb (longest (sliceLengths frame g lengths s)) 0) 14 (Plane (planeIndex frame g s)) _ (q .row14 s l)
+        (every-one (not (isRaw frame g s) && eqb (longest (sliceLengths frame g lengths s)) 0) 14 (Plane (planeIndex frame g s)) _ (q .row14 s l i)
         (every-if (ltb (sliceEnd frame g s - (sliceStart frame g s + 2)) (fewestBytes frame g lengths s)) 12 (Slice s) (q .row12 s l)))))
 
-    every-readable : (s : ℕ) (c : Chain) → s < sliceCount g → Every Q (readable (planeIndex frame g s) c)
+    every-readable : (s : ℕ) (c : Chain) → s < sliceCount g → planeIndex frame g s < planeCount g → Every Q (readable (planeIndex frame g s) c)
     unfolding readable Every
-    every-readable s (symbols rs) l = tt
-    every-readable s (stuckAt at) l = q .row14 s l
+    every-readable s (symbols rs) l i = tt
+    every-readable s (stuckAt at) l i = q .row14 s l i
 
-    every-read : (s : ℕ) → s < sliceCount g → Every Q (readCheck frame g lengths s)
+    every-read : (s : ℕ) → s < sliceCount g → planeIndex frame g s < planeCount g → Every Q (readCheck frame g lengths s)
     unfolding readCheck
-    every-read s l =
+    every-read s l i =
         every-one (not (leb 1 (predictorOf frame g s) && leb (predictorOf frame g s) 3)) 15 (Slice s) _ (q .row15 s l)
-        (every-readable s (residuesOf frame g lengths s) l)
+        (every-readable s (residuesOf frame g lengths s) l i)
 
     every-frame : (w : ℕ) → Every Q (frameChecks frame g lengths w)
     unfolding frameChecks
     every-frame w =
         every-then (preambleChecks frame g) _ every-preamble
-        (every-then (inOrder (sliceCount g) (indexCheck frame g)) _ (every-order _ _ every-index)
-        (every-then (inOrder (planeCount g) (lengthCheck g lengths)) _ (every-order _ _ every-length)
-        (every-one (ltb w (needOfAll g lengths)) 11 Nothing _ (q .row11) (every-order _ _ every-slice))))
+        (every-next (inOrder (sliceCount g) (indexCheck frame g)) _ (every-order _ _ every-index) (λ e.
+        every-then (inOrder (planeCount g) (lengthCheck g lengths)) _ (every-order _ _ every-length)
+        (every-one (ltb w (needOfAll g lengths)) 11 Nothing _ (q .row11) (every-order _ _ (λ s l. every-slice s l (index-below frame g s (each-passed _ _ s e l)))))))
 
     -- refusals 5 to 15
     pub every-rest : (w : ℕ) → Every Q (restOf frame g lengths w)
     unfolding restOf readChecks
     every-rest w =
-        every-then (frameChecks frame g lengths w) (inOrder (sliceCount g) (readCheck frame g lengths)) (every-frame w) (every-order _ _ every-read)
+        every-next (frameChecks frame g lengths w) (inOrder (sliceCount g) (readCheck frame g lengths)) (every-frame w)
+        (λ e. every-order _ _ (λ s l. every-read s l (index-below frame g s (each-passed _ _ s (indices-passed frame g lengths w e) l))))
 
     -- all of them
     pub every-answer : (deep : Bool) (planes w : ℕ) → LentRows Q → Every Q (answerOf deep frame g lengths planes w)

@@ -21,7 +21,7 @@ pub record LentRows (Q : ℕ → Place → Type 0) : Type 0 where
   pub row3 : Q 3 Nothing
   pub row4 : Q 4 Nothing
 
--- Q holds of refusals 5 to 15, at each place that they can have
+-- Q holds of refusals 5 to 15, at each place that they can have; 14 is only given once every index is below P
 pub record FrameRows (Q : ℕ → Place → Type 0) (frame : List ℕ) (g : Geometry) : Type 0 where
   pub row5 : Q 5 Nothing
   pub row6 : Q 6 Nothing
@@ -32,5 +32,5 @@ pub record FrameRows (Q : ℕ → Place → Type 0) (frame : List ℕ) (g : Geom
   pub row11 : Q 11 Nothing
   pub row12 : (s : ℕ) → s < sliceCount g → Q 12 (Slice s)
   pub row13 : (s : ℕ) → s < sliceCount g → Q 13 (Slice s)
-  pub row14 : (s : ℕ) → s < sliceCount g → Q 14 (Plane (planeIndex frame g s))
+  pub row14 : (s : ℕ) → s < sliceCount g → planeIndex frame g s < planeCount g → Q 14 (Plane (planeIndex frame g s))
   pub row15 : (s : ℕ) → s < sliceCount g → Q 15 (Slice s)

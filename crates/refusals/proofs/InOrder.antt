@@ -1,0 +1,55 @@
+-- Checks one after another, as a loop goes through them: those before i have passed, check i refuses, all have passed.
+use mathlib.Core.Path.{_≡_, refl, sym, ap, _∙_}
+use Prim.Native.Nat.{ℕ, zero, suc, _+_, _-_, _≤_, _<_}
+use native.Mathlib.Nat.{add-zero, add-suc}
+use native.Mathlib.Numerals.{add-one}
+use native.Mathlib.Omega.{arith}
+use Rattle.scope.specs.Refusals.{_andThen_, inOrder}
+use Rattle.scope.specs.declared.Place.{Place}
+use Rattle.scope.specs.declared.Answer.{Answer}
+use Rattle.scope.specs.declared.Answer.the-variants.{Done, Refused}
+
+-- where a check and more have passed, the check has, and the rest has
+pub first-passed : (a b : Answer) → Done ≡ (a andThen b) → Done ≡ a
+first-passed Done b e = refl
+first-passed (Refused n p) b e = e
+
+pub then-passed : (a b : Answer) → Done ≡ (a andThen b) → Done ≡ b
+then-passed Done b e = e
+then-passed (Refused n p) b e = cc
+
+module _ (f : ℕ → Answer) where
+  -- before the first check
+  pub none-yet : Done ≡ inOrder 0 f
+  unfolding inOrder
+  none-yet = refl
+
+  -- one more has passed
+  pub one-passed : (i : ℕ) → Done ≡ inOrder i f → Done ≡ f i → Done ≡ inOrder (i + 1) f
+  unfolding inOrder
+  one-passed i e h = rw (add-one, ← e, ← h)
+
+  stays : (n : ℕ) (p : Place) (i k : ℕ) → Refused n p ≡ inOrder i f → Refused n p ≡ inOrder (i + k) f
+  unfolding inOrder
+  stays n p i zero e = rw add-zero e
+  stays n p i (suc k) e = rw (add-suc, ← stays n p i k e)
+
+  -- the first that refuses is the answer of all
+  pub one-refused : (m i n : ℕ) (p : Place) → i < m → Done ≡ inOrder i f → Refused n p ≡ f i → Refused n p ≡ inOrder m f
+  unfolding inOrder
+  one-refused m i n p l e h =
+      let z : suc i + (m - suc i) ≡ m = omega arith in
+      let k : Refused n p ≡ inOrder (suc i) f = rw (← e, ← h) in
+      rw z at (stays n p (suc i) (m - suc i) k)
+
+  earlier : (i k : ℕ) → Done ≡ inOrder (i + k) f → Done ≡ inOrder i f
+  unfolding inOrder
+  earlier i zero e = rw add-zero at e
+  earlier i (suc k) e = earlier i k (first-passed _ _ (rw add-suc at e))
+
+  -- where all have passed, each has
+  pub each-passed : (m i : ℕ) → Done ≡ inOrder m f → i < m → Done ≡ f i
+  unfolding inOrder
+  each-passed m i e l =
+      let z : m ≡ suc i + (m - suc i) = omega arith in
+      then-passed (inOrder i f) (f i) (earlier (suc i) (m - suc i) (rw z at e))

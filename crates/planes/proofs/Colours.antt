@@ -1,0 +1,154 @@
+-- One plane added to another, and the planes of a correlated family with G added: they are the picture.
+use mathlib.Core.Path.{_≡_, refl, sym, ap, _∙_}
+use mathlib.Core.Bool.{Bool, true, false, cond}
+use mathlib.Core.List.{List, [], _∷_, _++_}
+use Prim.Native.Nat.{ℕ, zero, suc, _+_, _-_, _*_, _≤_, _<_}
+use native.Mathlib.Omega.{arith}
+use borrow.Author.Tests.{ne-eqb}
+use lib.Dec.{eqb}
+use lib.ListN.{length, take, drop, length-take, length-drop}
+use Rattle.scope.specs.Base as base
+use Rattle.scope.specs.Base.{part, replaced, sumBelow}
+use Rattle.scope.specs.Geometry as geo
+use Rattle.scope.specs.Geometry.{correlated, planeCount, planeSamples, allSamples, swapped, orderOf, planeStart}
+use Rattle.scope.specs.Prediction as pred
+use Rattle.scope.specs.Prediction.{plus}
+use Rattle.scope.specs.Frame as frm
+use Rattle.scope.specs.Frame.{wirePlane, bufferPlane, planesUpTo, pictureOf}
+use Rattle.scope.specs.declared.Geometry.{Geometry}
+use Rattle.figures.proofs.Order.{Order, sum-upto, stretch-in}
+use Rattle.figures.proofs.Places.{order, sizes-alike, correlated-three}
+use Rattle.planes.specs.Standing.{Planes, withGreen, coloured}
+use Rattle.planes.proofs.Paste.{put-keeps}
+use Rattle.planes.proofs.Holds.{Holds, holds-put, holds-all}
+
+pub plus-length : (d : ℕ) (xs ys : List ℕ) → length xs ≡ length ys → length (plus d xs ys) ≡ length xs
+unfolding pred.plus
+plus-length d [] ys e = refl
+plus-length d (x ∷ xs) [] e = omega (arith, e)
+plus-length d (x ∷ xs) (y ∷ ys) e = ap suc (plus-length d xs ys (omega (arith, e)))
+
+-- adding keeps the buffer's length
+pub green-keeps : (d at n : ℕ) (xs : List ℕ) → n ≤ at → at + n ≤ length xs → length (withGreen d at n xs) ≡ length xs
+unfolding withGreen
+green-keeps d at n xs l h =
+    let e : length (part xs at n) ≡ length (part xs 0 n) = simp (length-take, length-drop) (omega arith) in
+    let k : length (plus d (part xs at n) (part xs 0 n)) ≡ n = plus-length d (part xs at n) (part xs 0 n) e ∙ simp (length-take, length-drop) (omega arith) in
+    put-keeps xs at n (plus d (part xs at n) (part xs 0 n)) k h
+
+-- ---- the planes of a correlated family: three of one size
+module _ (g : Geometry) (r : Bool) (er : r ≡ correlated (g .family)) (t : r ≡ true) (n : ℕ) (en : n ≡ planeSamples g 0) where
+  is-correlated : correlated (g .family) ≡ true
+  is-correlated = sym er ∙ t
+
+  size-n : (p : ℕ) → planeSamples g p ≡ n
+  size-n p = sizes-alike g is-correlated p 0 ∙ sym en
+
+  three-sum : sumBelow 3 (planeSamples g) ≡ n + n + n
+  unfolding base.sumBelow
+  three-sum = omega (arith, size-n 0, size-n 1, size-n 2)
+
+  three-in : (len : ℕ) → len ≡ allSamples g → n + n + n ≤ len
+  unfolding geo.allSamples
+  three-in len e =
+      let z : 3 + (planeCount g - 3) ≡ planeCount g = omega (arith, correlated-three (g .family) is-correlated) in
+      rw e (omega (arith, three-sum, rw z at (sum-upto (planeSamples g) 3 (planeCount g - 3))))
+
+  -- both sums lie in the buffer
+  pub two-in : (len : ℕ) → len ≡ allSamples g → n + n ≤ len
+  two-in len e = omega (arith, three-in len e)
+
+  pub three-still-in : (len len′ : ℕ) → len′ ≡ len → len ≡ allSamples g → n + n + n ≤ len′
+  three-still-in len len′ k e = omega (arith, three-in len e)
+
+  -- what the two sums make
+  pub coloured-both : (d : ℕ) (xs ys zs : List ℕ) → d ≡ g .depth → ys ≡ withGreen d n n xs → zs ≡ withGreen d (n + n) n ys → zs ≡ coloured g xs
+  unfolding coloured
+  coloured-both d xs ys zs ed ey ez =
+      rw (is-correlated, ← en) (ez ∙ rw ey (ap (λ (y : ℕ). withGreen y (n + n) n (withGreen y n n xs)) ed))
+
+-- and nothing where B and R are stored whole
+pub coloured-none : (g : Geometry) (r : Bool) (xs : List ℕ) → r ≡ correlated (g .family) → r ≡ false → xs ≡ coloured g xs
+unfolding coloured
+coloured-none g r xs e t = rw (← e, t)
+
+-- ---- the picture
+
+planes-same : (f h : ℕ → List ℕ) (n : ℕ) → ((b : ℕ) → b < n → f b ≡ h b) → planesUpTo f n ≡ planesUpTo h n
+unfolding frm.planesUpTo
+planes-same f h zero e = refl
+planes-same f h (suc n) e = rw (planes-same f h n (λ b l. e b (omega arith)), e n (omega arith))
+
+module _ (d P : ℕ) (σ size : ℕ → ℕ) (o : Order P σ size) (xs : ℕ → List ℕ) (buf : List ℕ) (h : Holds P σ size size xs buf) where
+  plane-length : (p : ℕ) → p < P → length (xs p) ≡ size p
+  plane-length p l =
+      ap length (sym (h .each p l)) ∙ simp (length-take, length-drop) (omega (arith, stretch-in P σ size o p l, h .room))
+
+  -- the plane that is first in the buffer, added to plane q
+  add-on : (q a n : ℕ) → q < P → 1 < P → a ≡ sumBelow (σ q) size → n ≡ size q → n ≡ size 1 → 0 ≡ sumBelow (σ 1) size → Holds P σ size size (λ p. cond (eqb q p) (plus d (xs q) (xs 1)) (xs p)) (withGreen d a n buf)
+  unfolding withGreen
+  add-on q a n lq l1 ea en e1 ez =
+      let there : part buf a n ≡ xs q = rw (ea, en) (h .each q lq) in
+      let first : part buf 0 n ≡ xs 1 = rw (← ez, ← e1) at (h .each 1 l1) in
+      let len : length (plus d (xs q) (xs 1)) ≡ size q = plus-length d (xs q) (xs 1) (plane-length q lq ∙ sym en ∙ e1 ∙ sym (plane-length 1 l1)) ∙ plane-length q lq in
+      rw (there, first, ea, en) (holds-put P σ size o xs buf h q (plus d (xs q) (xs 1)) lq len)
+
+module _ (g : Geometry) (wire : ℕ → List ℕ) (buf : List ℕ) (pl : Planes g wire buf) where
+  stand : Holds (planeCount g) (orderOf g) (planeSamples g) (planeSamples g) wire buf
+  unfolding geo.allSamples geo.planeStart
+  stand = record { each = pl .each; room = omega (arith, pl .whole) }
+
+  whole : length buf ≡ sumBelow (planeCount g) (planeSamples g)
+  unfolding geo.allSamples
+  whole = pl .whole
+
+  plain : correlated (g .family) ≡ false → buf ≡ planesUpTo (bufferPlane (correlated (g .family)) (g .depth) wire) (planeCount g)
+  unfolding frm.bufferPlane geo.swapped
+  plain e =
+      holds-all (planeCount g) (orderOf g) (planeSamples g) (order g) (planeSamples g) wire buf stand whole (λ p l. refl)
+      ∙ planes-same _ _ (planeCount g) (λ b l. rw e)
+
+  mixed : correlated (g .family) ≡ true → withGreen (g .depth) (planeSamples g 0 + planeSamples g 0) (planeSamples g 0) (withGreen (g .depth) (planeSamples g 0) (planeSamples g 0) buf) ≡ planesUpTo (bufferPlane (correlated (g .family)) (g .depth) wire) (planeCount g)
+  unfolding frm.bufferPlane geo.swapped base.sumBelow
+  mixed e =
+      holds-all (planeCount g) (orderOf g) (planeSamples g) (order g) (planeSamples g) _ _ twice keeps (λ p l. refl)
+      ∙ planes-same _ _ (planeCount g) (λ b l. rw e (cases b))
+    where
+      three : 3 ≤ planeCount g
+      three = correlated-three (g .family) e
+
+      once : Holds (planeCount g) (orderOf g) (planeSamples g) (planeSamples g) (λ p. cond (eqb 0 p) (plus (g .depth) (wire 0) (wire 1)) (wire p)) (withGreen (g .depth) (planeSamples g 0) (planeSamples g 0) buf)
+      once =
+          add-on (g .depth) (planeCount g) (orderOf g) (planeSamples g) (order g) wire buf stand 0 (planeSamples g 0) (planeSamples g 0)
+          (omega (arith, three)) (omega (arith, three)) (rw e (omega arith)) refl (sizes-alike g e 0 1) (rw e)
+
+      twice : Holds (planeCount g) (orderOf g) (planeSamples g) (planeSamples g) (λ p. cond (eqb 2 p) (plus (g .depth) (wire 2) (wire 1)) (cond (eqb 0 p) (plus (g .depth) (wire 0) (wire 1)) (wire p))) (withGreen (g .depth) (planeSamples g 0 + planeSamples g 0) (planeSamples g 0) (withGreen (g .depth) (planeSamples g 0) (planeSamples g 0) buf))
+      twice =
+          add-on (g .depth) (planeCount g) (orderOf g) (planeSamples g) (order g) _ _ once 2 (planeSamples g 0 + planeSamples g 0) (planeSamples g 0)
+          (omega (arith, three)) (omega (arith, three)) (rw e (omega (arith, sizes-alike g e 0 1))) (sizes-alike g e 0 2) (sizes-alike g e 0 1) (rw e)
+
+      -- three planes of one size are there
+      sizes : planeSamples g 0 + planeSamples g 0 + planeSamples g 0 ≤ length buf
+      sizes =
+          let two : planeSamples g 0 + planeSamples g 0 ≡ sumBelow (orderOf g 2) (planeSamples g) = rw e (omega (arith, sizes-alike g e 0 1)) in
+          omega (arith, whole, two, stretch-in (planeCount g) (orderOf g) (planeSamples g) (order g) 2 (omega (arith, three)), sizes-alike g e 0 2)
+
+      keeps : length (withGreen (g .depth) (planeSamples g 0 + planeSamples g 0) (planeSamples g 0) (withGreen (g .depth) (planeSamples g 0) (planeSamples g 0) buf)) ≡ sumBelow (planeCount g) (planeSamples g)
+      keeps =
+          let k : length (withGreen (g .depth) (planeSamples g 0) (planeSamples g 0) buf) ≡ length buf = green-keeps (g .depth) (planeSamples g 0) (planeSamples g 0) buf (omega arith) (omega (arith, sizes)) in
+          green-keeps (g .depth) (planeSamples g 0 + planeSamples g 0) (planeSamples g 0) (withGreen (g .depth) (planeSamples g 0) (planeSamples g 0) buf) (omega arith) (omega (arith, sizes, k)) ∙ k ∙ whole
+
+      cases : (b : ℕ) → cond (eqb 2 (swapped true b)) (plus (g .depth) (wire 2) (wire 1)) (cond (eqb 0 (swapped true b)) (plus (g .depth) (wire 0) (wire 1)) (wire (swapped true b))) ≡ bufferPlane true (g .depth) wire b
+      cases zero = refl
+      cases (suc zero) = refl
+      cases (suc (suc zero)) = refl
+      cases (suc (suc (suc b))) = rw (ne-eqb 2 (suc (suc (suc b))) (λ z. omega arith), ne-eqb 0 (suc (suc (suc b))) (λ z. omega arith))
+
+  coloured-is : (t : Bool) → correlated (g .family) ≡ t → cond t (withGreen (g .depth) (planeSamples g 0 + planeSamples g 0) (planeSamples g 0) (withGreen (g .depth) (planeSamples g 0) (planeSamples g 0) buf)) buf ≡ planesUpTo (bufferPlane (correlated (g .family)) (g .depth) wire) (planeCount g)
+  coloured-is true k = mixed k
+  coloured-is false k = plain k
+
+-- planes that stand in their stretches, coloured, are the picture
+pub picture-is : (frame : List ℕ) (g : Geometry) (lengths buf buf′ : List ℕ) → Planes g (wirePlane frame g lengths) buf → buf′ ≡ coloured g buf → buf′ ≡ pictureOf frame g lengths
+unfolding coloured frm.pictureOf
+picture-is frame g lengths buf buf′ pl e = e ∙ coloured-is g (wirePlane frame g lengths) buf pl (correlated (g .family)) refl

@@ -1,0 +1,4 @@
+pub mod Paste
+pub mod Holds
+pub mod Colours
+pub mod Laid

@@ -1,0 +1,50 @@
+-- A list of which one part is replaced: what another part, and the part that ends with it, then hold.
+use mathlib.Core.Path.{_≡_, refl, sym, ap, _∙_}
+use mathlib.Core.List.{List, [], _∷_, _++_, append-assoc}
+use Prim.Native.Nat.{ℕ, zero, suc, _+_, _-_, _≤_, _<_, min}
+use native.Mathlib.Omega.{arith}
+use lib.ListN.{length, take, drop, length-append, length-take, length-drop, take-append-drop}
+use lib.Seq.{take-at, drop-at, take-all, take-append-le, drop-append-le, drop-drop, take-add, length-take-le}
+use Rattle.scope.specs.Base.{part, replaced}
+
+length-part : (l : List ℕ) (at n : ℕ) → at + n ≤ length l → length (part l at n) ≡ n
+length-part l at n h = simp (length-take, length-drop) (omega arith)
+
+module _ (l : List ℕ) (at m : ℕ) where
+  -- a part that ends before a
+  cut-before : (ys : List ℕ) (a : ℕ) → at + m ≤ a → a ≤ length l → part (take a l ++ ys) at m ≡ take m (drop at (take a l))
+  cut-before ys a h k =
+      let e : length (take a l) ≡ a = length-take-le a l k in
+      let b : at ≤ length (take a l) = omega arith in
+      let c : m ≤ length (drop at (take a l)) = simp length-drop (omega arith) in
+      rw (drop-append-le at (take a l) ys b) (take-append-le m (drop at (take a l)) ys c)
+
+  pub part-before : (a n : ℕ) (xs : List ℕ) → at + m ≤ a → a ≤ length l → part (replaced l a n xs) at m ≡ part l at m
+  part-before a n xs h k =
+      cut-before _ a h k ∙ sym (cut-before (drop a l) a h k) ∙ ap (λ (y : List ℕ). part y at m) (take-append-drop a l)
+
+  -- a part that starts after the one replaced
+  pub part-after : (a n : ℕ) (xs : List ℕ) → length xs ≡ n → a + n ≤ at → a + n ≤ length l → part (replaced l a n xs) at m ≡ part l at m
+  part-after a n xs e h k =
+      let q : length (take a l ++ xs) ≡ a + n = simp (length-append, length-take) (omega arith) in
+      let z : a + n + (at - (a + n)) ≡ at = omega arith in
+      let from : drop (a + n) (replaced l a n xs) ≡ drop (a + n) l =
+      rw (← append-assoc (take a l) xs (drop n (drop a l))) (drop-at (take a l ++ xs) (drop n (drop a l)) (a + n) q ∙ drop-drop n a l)
+      in
+      ap (take m) (ap (λ (y : ℕ). drop y (replaced l a n xs)) (sym z) ∙ sym (drop-drop (at - (a + n)) (a + n) (replaced l a n xs)) ∙ ap (drop (at - (a + n))) from ∙ drop-drop (at - (a + n)) (a + n) l ∙ ap (λ (y : ℕ). drop y l) z)
+
+  -- the part that ends with it
+  pub part-more : (n : ℕ) (xs : List ℕ) → length xs ≡ n → at + m + n ≤ length l → part (replaced l (at + m) n xs) at (m + n) ≡ part l at m ++ xs
+  part-more n xs e h =
+      let k : length (take at l) ≡ at = length-take-le at l (omega arith) in
+      let q : length (part l at m ++ xs) ≡ m + n = simp (length-append, length-part l at m (omega arith)) (omega arith) in
+      let ys : List ℕ = drop n (drop (at + m) l) in
+      rw (take-add at m l, append-assoc (take at l) (part l at m) (xs ++ ys), drop-at (take at l) (part l at m ++ (xs ++ ys)) at k, ← append-assoc (part l at m) xs ys)
+      (take-at (part l at m ++ xs) ys (m + n) q)
+
+-- what is put in is as long as what it takes the place of, where the whole keeps its length
+pub put-length : (l : List ℕ) (a n : ℕ) (xs : List ℕ) → a + n ≤ length l → length (replaced l a n xs) ≡ length l → length xs ≡ n
+put-length l a n xs h e = omega (arith, length-append (take a l) (xs ++ drop n (drop a l)), length-append xs (drop n (drop a l)), length-take a l, length-drop n (drop a l), length-drop a l)
+
+pub put-keeps : (l : List ℕ) (a n : ℕ) (xs : List ℕ) → length xs ≡ n → a + n ≤ length l → length (replaced l a n xs) ≡ length l
+put-keeps l a n xs e h = simp (length-append, length-take, length-drop) (omega arith)

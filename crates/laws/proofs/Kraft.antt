@@ -180,3 +180,17 @@ over-some ls h = lt-ltb 262144 (shares ls) h
 pub none-over : (ls : List ℕ) → overfull ls ≡ false → shares ls ≤ 262144
 unfolding overfull
 none-over ls h = ltb-false 262144 (shares ls) h
+
+-- ---- the boundary, both ways: a complete code passes, and with any word more it does not
+
+share-some : (l : ℕ) → 0 < l → 0 < share l
+unfolding share
+share-some zero z = absurd (omega arith)
+share-some (suc l) z = pow-pos (18 - suc l)
+
+pub complete-passes : (ls : List ℕ) → shares ls ≡ 262144 → overfull ls ≡ false
+complete-passes ls e = over-none ls (le-of-eq e)
+
+pub one-more-over : (ls : List ℕ) (l : ℕ) → shares ls ≡ 262144 → 0 < l → overfull (l ∷ ls) ≡ true
+unfolding shares
+one-more-over ls l e z = over-some (l ∷ ls) (omega (arith, share-some l z))

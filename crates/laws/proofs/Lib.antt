@@ -7,4 +7,5 @@ pub mod Heads
 pub mod Lists
 pub mod Lookup
 pub mod Chains
+pub mod Shifts
 pub mod Sizes

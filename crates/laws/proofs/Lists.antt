@@ -15,15 +15,15 @@ unfolding listFrom
 length-listFrom f i zero = refl
 length-listFrom f i (suc n) = ap suc (length-listFrom f (suc i) n)
 
-getD-listFrom : (f : ℕ → ℕ) (i n k : ℕ) → k < n → getD (listFrom f i n) k 0 ≡ f (i + k)
+pub getD-from : (f : ℕ → ℕ) (i n k : ℕ) → k < n → getD (listFrom f i n) k 0 ≡ f (i + k)
 unfolding listFrom
-getD-listFrom f i zero k h = absurd (not-suc-le-zero h)
-getD-listFrom f i (suc n) zero h = ap f (sym (add-zero i))
-getD-listFrom f i (suc n) (suc k) h = getD-listFrom f (suc i) n k (le-of-suc-le-suc h) ∙ ap f (suc-add i k ∙ sym (add-suc i k))
+getD-from f i zero k h = absurd (not-suc-le-zero h)
+getD-from f i (suc n) zero h = ap f (sym (add-zero i))
+getD-from f i (suc n) (suc k) h = getD-from f (suc i) n k (le-of-suc-le-suc h) ∙ ap f (suc-add i k ∙ sym (add-suc i k))
 
 -- element k is f k
 pub getD-below : (f : ℕ → ℕ) (n k : ℕ) → k < n → getD (listBelow n f) k 0 ≡ f k
-getD-below f n k h = getD-listFrom f 0 n k h ∙ ap f (zero-add k)
+getD-below f n k h = getD-from f 0 n k h ∙ ap f (zero-add k)
 
 -- the one list of n elements with f k at each place k
 pub listBelow-only : (f : ℕ → ℕ) (n : ℕ) (xs : List ℕ) → length xs ≡ n → ((k : ℕ) → k < n → getD xs k 0 ≡ f k) → xs ≡ listBelow n f

@@ -16,6 +16,7 @@ use Rattle.scope.specs.Prediction.{plus}
 use Rattle.scope.specs.Frame as frm
 use Rattle.scope.specs.Frame.{wirePlane, bufferPlane, planesUpTo, pictureOf}
 use Rattle.scope.specs.declared.Geometry.{Geometry}
+use Rattle.figures.specs.Sound.{Sound}
 use Rattle.figures.proofs.Order.{Order, sum-upto, stretch-in}
 use Rattle.figures.proofs.Places.{order, sizes-alike, correlated-three}
 use Rattle.planes.specs.Standing.{Planes, withGreen, coloured}
@@ -61,11 +62,22 @@ module _ (g : Geometry) (r : Bool) (er : r ≡ correlated (g .family)) (t : r �
   pub three-still-in : (len len′ : ℕ) → len′ ≡ len → len ≡ allSamples g → n + n + n ≤ len′
   three-still-in len len′ k e = omega (arith, three-in len e)
 
-  -- what the two sums make
-  pub coloured-both : (d : ℕ) (xs ys zs : List ℕ) → d ≡ g .depth → ys ≡ withGreen d n n xs → zs ≡ withGreen d (n + n) n ys → zs ≡ coloured g xs
-  unfolding coloured
+  -- what the two sums make, as the functions that add say it
+  pub coloured-both : (d : ℕ) (xs ys zs : List ℕ) → d ≡ g .depth → ys ≡ replaced xs n n (plus d (part xs n n) (part xs 0 n)) → zs ≡ replaced ys (n + n) n (plus d (part ys (n + n) n) (part ys 0 n)) → zs ≡ coloured g xs
+  unfolding coloured withGreen
   coloured-both d xs ys zs ed ey ez =
-      rw (is-correlated, ← en) (ez ∙ rw ey (ap (λ (y : ℕ). withGreen y (n + n) n (withGreen y n n xs)) ed))
+      rw (is-correlated, ← en, ← ed, ← ey) ez
+
+  -- at depth 8, and where the depth is the geometry's own
+  pub coloured-8 : (xs ys zs : List ℕ) → g .depth ≡ 8 → ys ≡ replaced xs n n (plus 8 (part xs n n) (part xs 0 n)) → zs ≡ replaced ys (n + n) n (plus 8 (part ys (n + n) n) (part ys 0 n)) → zs ≡ coloured g xs
+  coloured-8 xs ys zs ed ey ez = coloured-both 8 xs ys zs (sym ed) ey ez
+
+  pub coloured-own : (xs ys zs : List ℕ) → ys ≡ replaced xs n n (plus (g .depth) (part xs n n) (part xs 0 n)) → zs ≡ replaced ys (n + n) n (plus (g .depth) (part ys (n + n) n) (part ys 0 n)) → zs ≡ coloured g xs
+  coloured-own xs ys zs ey ez = coloured-both (g .depth) xs ys zs refl ey ez
+
+-- a depth is at most 14
+pub depth-most : (g : Geometry) → Sound g → g .depth ≤ 16
+depth-most g ok = omega (arith, ok .deep .1)
 
 -- and nothing where B and R are stored whole
 pub coloured-none : (g : Geometry) (r : Bool) (xs : List ℕ) → r ≡ correlated (g .family) → r ≡ false → xs ≡ coloured g xs

@@ -2,3 +2,4 @@ pub mod Paste
 pub mod Holds
 pub mod Colours
 pub mod Laid
+pub mod Once

@@ -170,6 +170,14 @@ unfolding swept
 swept-length step s i zero = refl
 swept-length step s i (suc n) = swept-length step _ (suc i) n ∙ length-set s i _
 
+-- two steps that are the same everywhere sweep the same
+pub swept-same : (step other : Step) → ((j : ℕ) (p : List ℕ) (x : ℕ) → other j p x ≡ step j p x) → (s : List ℕ) (i n : ℕ)
+    → swept other s i n ≡ swept step s i n
+unfolding swept
+swept-same step other same s i zero = refl
+swept-same step other same s i (suc n) =
+    rw (same i (take i s) (getD s i 0)) (swept-same step other same (set s i (step i (take i s) (getD s i 0))) (suc i) n)
+
 -- A sweep takes the loop from i to i + n, where the two steps agree at those places: the sweep's own step need not know what
 -- the loop's step decides by the place.
 pub swept-at : (step other : Step) (xs s : List ℕ) (i n : ℕ) → At step xs s i → i + n ≤ length xs

@@ -1,0 +1,4 @@
+pub mod Formulas
+pub mod Rows
+pub mod Slice
+pub mod Once

@@ -1,0 +1,240 @@
+-- A slice, row after row, at any depth and by any predictor: a row function's list takes the loop over the whole slice from the
+-- row's start to its end. Document 01, "Prediction, slice by slice". Assumes nothing.
+use mathlib.Core.Path.{_≡_, refl, sym, ap, _∙_}
+use mathlib.Core.Bool.{cond}
+use mathlib.Core.List.{List}
+use Prim.Native.Nat.{ℕ, zero, suc, _+_, _-_, _*_, _/_, _%_, _^_, _≤_, _<_, min}
+use native.Mathlib.Nat.{add-mul-mod-self-right, add-mod-right, mod-eq-of-lt, mod-lt, zero-mod, mod-add-div', lt-of-mul-lt-mul-right, mul-le-mul-right, mul-le-mul-left, suc-mul}
+use native.Mathlib.Numerals.{add-one}
+use native.Mathlib.Decide.{decLt}
+use native.Mathlib.Omega.{arith}
+use borrow.Author.Needs.{needs}
+use borrow.Author.Tests.{lt-ltb, le-ltb, eq-eqb, ne-eqb}
+use mir.Syntax.{w64}
+use mir.Val.{Fits}
+use lib.Dec.{ltb}
+use lib.ListN.{length, getD, take, set, length-set}
+use lib.Pow.{pow-pos}
+use lib.Seq.{getD-take}
+use Rattle.scope.specs.Base.{Step, rebuilt, replaced}
+use Rattle.scope.specs.Prediction.{prediction, sample, samplesOf, predictor, gradient, clampMedian, t87Median}
+use Rattle.memory.specs.Loop.{swept}
+use Rattle.memory.proofs.InPlace.{At, at-start, at-step, at-end, at-below, swept-at, swept-same, swept-length, rebuilt-length, rebuilt-below}
+use Rattle.predict.proofs.Formulas.{by-left, by-gradient, by-clamp, by-t87}
+use Rattle.predict.proofs.Rows.{above-set}
+use Rattle.predict.specs.Rows.{leftward, across, rowFrom, firstRow, laterRow, row, Above}
+
+-- ---- columns: a row starts at a place that the width divides
+
+module _ (width start : ℕ) (e : start % width ≡ 0) where
+  -- the places after it, within the row, have another column
+  past-first : (j : ℕ) → start < j → j < start + width → j % width ≡ 0 → ⊥
+  past-first j h k z =
+      let c : start ≡ start / width * width = omega (arith, mod-add-div' start width) in
+      let d : j ≡ j - start + start / width * width = omega arith in
+      let m : j % width ≡ j - start =
+      ap (λ (x : ℕ). x % width) d ∙ add-mul-mod-self-right (j - start) (start / width) width ∙ mod-eq-of-lt (omega arith) in
+      omega arith
+
+  -- a row that starts among the first f rows ends there too
+  within-first : (f : ℕ) → start < f * width → start + width ≤ f * width
+  within-first f h =
+      let c : start ≡ start / width * width = omega (arith, mod-add-div' start width) in
+      let l : start / width < f = lt-of-mul-lt-mul-right width (omega arith) in
+      omega (arith, mul-le-mul-right width l, suc-mul (start / width) width)
+
+-- ---- what the whole slice's step is at a place of a row, its tests decided
+
+module _ (depth : ℕ) (predict : ℕ → ℕ → ℕ → ℕ) (width f i : ℕ) (before : List ℕ) (x : ℕ) where
+  first-start : i < f * width → i % width ≡ 0 → (x + 0) % 2 ^ depth ≡ sample depth predict width f i before x
+  unfolding sample prediction
+  first-start h e = simp (lt-ltb i (f * width) h, eq-eqb (i % width) 0 e)
+
+  first-across : i < f * width → (i % width ≡ 0 → ⊥) → leftward depth i before x ≡ sample depth predict width f i before x
+  unfolding sample prediction
+  first-across h e = simp (lt-ltb i (f * width) h, ne-eqb (i % width) 0 e)
+
+  later-start : f * width ≤ i → i % width ≡ 0
+      → (x + getD before (i - f * width) 0) % 2 ^ depth ≡ sample depth predict width f i before x
+  unfolding sample prediction
+  later-start h e = simp (le-ltb i (f * width) h, eq-eqb (i % width) 0 e)
+
+  later-across : f * width ≤ i → (i % width ≡ 0 → ⊥)
+      → across depth predict (f * width) i before x ≡ sample depth predict width f i before x
+  unfolding sample prediction
+  later-across h e = simp (le-ltb i (f * width) h, ne-eqb (i % width) 0 e)
+
+-- ---- a row takes the loop over the slice from its start to its end
+
+row-at : (step other : Step) (depth above : ℕ) (xs s : List ℕ) (start end : ℕ) → At step xs s start → start < end → end ≤ length s
+    → (getD s start 0 + above) % 2 ^ depth ≡ step start (take start s) (getD s start 0)
+    → ((j : ℕ) (p : List ℕ) (x : ℕ) → start < j → j < end → other j p x ≡ step j p x)
+    → At step xs (rowFrom depth above other s start end) end
+unfolding rowFrom
+row-at step other depth above xs s start end a h k e same =
+    let q : start + 1 + (end - (start + 1)) ≡ end = omega arith in
+    rw q at
+    (swept-at step other xs (set s start ((getD s start 0 + above) % 2 ^ depth)) (start + 1) (end - (start + 1))
+    (at-step step xs s start a _ (omega arith) e) (omega (arith, a .same))
+    (λ j p x l m. same j p x (omega arith) (omega arith)))
+
+module _ (depth : ℕ) (predict : ℕ → ℕ → ℕ → ℕ) (width f : ℕ) (xs s : List ℕ) (start end : ℕ)
+    (a : At (sample depth predict width f) xs s start) (e : start % width ≡ 0) (h : start < end) (k : end ≤ length s)
+    (m : end ≤ start + width) where
+  first-row-at : start < f * width → At (sample depth predict width f) xs (rowFrom depth 0 (leftward depth) s start end) end
+  first-row-at l =
+      let n : start + width ≤ f * width = within-first width start e f l in
+      row-at (sample depth predict width f) (leftward depth) depth 0 xs s start end a h k
+      (first-start depth predict width f start (take start s) (getD s start 0) l e)
+      (λ j p x b c. first-across depth predict width f j p x (omega arith) (past-first width start e j b (omega arith)))
+
+  later-row-at : 0 < f * width → f * width ≤ start
+      → At (sample depth predict width f) xs (rowFrom depth (getD s (start - f * width) 0) (across depth predict (f * width)) s start end) end
+  later-row-at p l =
+      let n : start - f * width < start = omega arith in
+      row-at (sample depth predict width f) (across depth predict (f * width)) depth (getD s (start - f * width) 0) xs s start end a h k
+      (rw (← getD-take start s (start - f * width) 0 n)
+      (later-start depth predict width f start (take start s) (getD s start 0) l e))
+      (λ j p x b c. later-across depth predict width f j p x (omega arith) (past-first width start e j b (omega arith)))
+
+-- ---- a row function's two parts, the store in column 0 and the loop after it, make its row
+
+-- a store keeps the length
+pub set-kept : (s ys : List ℕ) (i v : ℕ) → length ys ≡ length (set s i v) → length ys ≡ length s
+set-kept s ys i v e = e ∙ length-set s i v
+
+module _ (depth : ℕ) (s ys : List ℕ) (start end v : ℕ) where
+  pub first-made : v ≡ (getD s start 0 + 0) % 2 ^ depth → ys ≡ swept (leftward depth) (set s start v) (start + 1) (end - (start + 1))
+      → ys ≡ firstRow depth s start end
+  unfolding rowFrom
+  first-made e k = rw e at k
+
+  module _ (kind back : ℕ) (e : v ≡ (getD s start 0 + getD s (start - back) 0) % 2 ^ depth) where
+    later-made : (step : Step) → ((i : ℕ) (p : List ℕ) (x : ℕ) → step i p x ≡ across depth (predictor depth kind) back i p x)
+        → ys ≡ swept step (set s start v) (start + 1) (end - (start + 1)) → ys ≡ laterRow depth kind back s start end
+    unfolding rowFrom
+    later-made step same k =
+        rw e at
+        (k ∙ swept-same (across depth (predictor depth kind) back) step same (set s start v) (start + 1) (end - (start + 1)))
+
+    pub left-made : kind ≡ 1 → ys ≡ swept (leftward depth) (set s start v) (start + 1) (end - (start + 1))
+        → ys ≡ laterRow depth kind back s start end
+    left-made h = later-made (leftward depth) (λ i p x. rw (by-left depth kind _ _ _ h))
+
+    pub gradient-made : kind ≡ 2 → ys ≡ swept (across depth (gradient depth) back) (set s start v) (start + 1) (end - (start + 1))
+        → ys ≡ laterRow depth kind back s start end
+    gradient-made h = later-made (across depth (gradient depth) back) (λ i p x. rw (by-gradient depth kind _ _ _ h))
+
+    pub t87-made : (kind ≡ 1 → ⊥) → (kind ≡ 2 → ⊥) → 8 < depth
+        → ys ≡ swept (across depth t87Median back) (set s start v) (start + 1) (end - (start + 1))
+        → ys ≡ laterRow depth kind back s start end
+    t87-made h k d = later-made (across depth t87Median back) (λ i p x. rw (by-t87 depth kind _ _ _ h k d))
+
+pub clamp-made : (s ys : List ℕ) (start end v kind back : ℕ) → v ≡ (getD s start 0 + getD s (start - back) 0) % 2 ^ 8
+    → (kind ≡ 1 → ⊥) → (kind ≡ 2 → ⊥)
+    → ys ≡ swept (across 8 (clampMedian 8) back) (set s start v) (start + 1) (end - (start + 1))
+    → ys ≡ laterRow 8 kind back s start end
+clamp-made s ys start end v kind back e h k =
+    later-made 8 s ys start end v kind back e (across 8 (clampMedian 8) back) (λ i p x. rw (by-clamp kind _ _ _ h k))
+
+-- a row of either sort
+pub row-first : (depth kind back : ℕ) (s ys : List ℕ) (start end : ℕ) → start < back → ys ≡ firstRow depth s start end
+    → ys ≡ row depth kind back s start end
+unfolding row
+row-first depth kind back s ys start end h e = simp (lt-ltb start back h) e
+
+pub row-later : (depth kind back : ℕ) (s ys : List ℕ) (start end : ℕ) → back ≤ start → ys ≡ laterRow depth kind back s start end
+    → ys ≡ row depth kind back s start end
+unfolding row
+row-later depth kind back s ys start end h e = simp (le-ltb start back h) e
+
+-- what the answers of the row functions search with
+pub ruleset row-parts = (set-kept, first-made, left-made, gradient-made, clamp-made, t87-made, row-first, row-later, above-set, needs)
+
+-- ---- the loop over the rows
+
+-- it began with xs, has made the samples before `start`, where a row starts, and now holds s
+pub record Rows (depth kind width f : ℕ) (xs s : List ℕ) (start : ℕ) : Type 0 where
+  pub made : At (sample depth (predictor depth kind) width f) xs s start
+  pub column : start < length xs → start % width ≡ 0
+
+module _ (depth kind width f : ℕ) (xs : List ℕ) where
+  -- before the first row
+  pub rows-start : Rows depth kind width f xs xs 0
+  rows-start = record { made = at-start (sample depth (predictor depth kind) width f) xs; column = λ h. zero-mod width }
+
+  module _ (s : List ℕ) (start : ℕ) (r : Rows depth kind width f xs s start) where
+    pub rows-length : length s ≡ length xs
+    rows-length = r .made .same
+
+    -- after the last row
+    pub rows-end : length s ≤ start → s ≡ samplesOf depth kind width f xs
+    unfolding samplesOf
+    rows-end h = at-end (sample depth (predictor depth kind) width f) xs s start (r .made) h
+
+    module _ (back end : ℕ) (h : start < length s) (eb : back ≡ f * width) (p : 0 < back) (ee : end ≡ min (start + width) (length s))
+      where
+        aligned : start % width ≡ 0
+        aligned = r .column (omega (arith, r .made .same))
+
+        -- a row
+        pub rows-step : 0 < width → (ys : List ℕ) → ys ≡ row depth kind back s start end → Rows depth kind width f xs ys end
+        unfolding row
+        rows-step q ys k =
+            record {
+              made = rw k (go (decLt start back));
+              column = λ l.
+                  let e : end ≡ start + width = omega (arith, r .made .same) in
+                  rw e (add-mod-right start width ∙ aligned);
+            }
+          where
+            go : Dec (start < back)
+                → At (sample depth (predictor depth kind) width f) xs
+                (cond (ltb start back) (firstRow depth s start end) (laterRow depth kind back s start end)) end
+            go (yes l) =
+                rw (lt-ltb start back l)
+                (first-row-at depth (predictor depth kind) width f xs s start end (r .made) aligned (omega arith) (omega arith)
+                (omega arith) (rw eb at l))
+            go (no l) =
+                let m : back ≤ start = omega arith in
+                rw (le-ltb start back m, eb)
+                (later-row-at depth (predictor depth kind) width f xs s start end (r .made) aligned (omega arith) (omega arith)
+                (omega arith) (rw eb at p) (rw eb at m))
+
+        -- what was made is below 2^depth
+        pub rows-above : 0 < f → Above depth back s (start + 1) end
+        unfolding sample
+        rows-above q =
+            record {
+              below = λ j l m.
+                  at-below (sample depth (predictor depth kind) width f) (2 ^ depth) (λ i b x. mod-lt _ (pow-pos depth)) xs s start
+                  (r .made) j (omega (arith, mul-le-mul-right width q));
+            }
+
+-- the row f up stands at least one place back
+pub back-pos : (f width back : ℕ) → back ≡ f * width → 0 < f → 0 < width → 0 < back
+back-pos f width back e h k = omega (arith, mul-le-mul-right width h)
+
+-- how far back it stands is a usize
+pub back-fits : (f width : ℕ) → f ≤ 2 → width ≤ 16384 → Fits w64 (f * width)
+back-fits f width h k = record { fits = omega (arith, mul-le-mul-left f k, mul-le-mul-right 16384 h) }
+
+-- what the answers of the loop over the rows search with
+pub ruleset slices = (rows-start, rows-length, rows-step, rows-end, rows-above, back-pos, back-fits, needs)
+
+-- a part that was lent is back
+pub part-back : (l : List ℕ) (at n : ℕ) (ys zs : List ℕ) → ys ≡ zs → replaced l at n ys ≡ replaced l at n zs
+part-back l at n ys zs e = rw e
+
+-- ---- what callers cite of a slice's samples
+
+-- there are as many samples as residues
+pub samples-length : (depth kind width f : ℕ) (rs : List ℕ) → length (samplesOf depth kind width f rs) ≡ length rs
+unfolding samplesOf
+samples-length depth kind width f rs = rebuilt-length (sample depth (predictor depth kind) width f) rs
+
+-- every sample is below 2^depth, whatever the residues
+pub samples-below : (depth kind width f : ℕ) (rs : List ℕ) (j : ℕ) → j < length rs → getD (samplesOf depth kind width f rs) j 0 < 2 ^ depth
+unfolding samplesOf sample
+samples-below depth kind width f rs j h =
+    rebuilt-below (sample depth (predictor depth kind) width f) (2 ^ depth) (λ i b x. mod-lt _ (pow-pos depth)) rs j h

@@ -1,8 +1,8 @@
 // Document 01, "Refusal numbers", 1 to 4: what is lent, judged before anything else is looked at. Every number is allowed.
-use crate::all_samples;
-use crate::is_subsampled;
-use crate::plane_count;
-use crate::symbol_count;
+use figures::all_samples;
+use figures::is_subsampled;
+use figures::plane_count;
+use figures::symbol_count;
 use scope::Answer;
 use scope::Family;
 use scope::Geometry;
@@ -12,7 +12,8 @@ ghost use Prim.Native.Nat.{_%_, _≤_};
 ghost use lib.Dec.{eqb};
 ghost use Rattle.scope.specs.Geometry.{sizeFits, factorFits, depthFits, geometryFits};
 ghost use Rattle.scope.specs.Frame.{lentChecks};
-ghost use Rattle.figures.specs.Sound.{Sound, shapeChecks, sizeChecks};
+ghost use Rattle.figures.specs.Sound.{Sound};
+ghost use Rattle.lent.specs.Steps.{shapeChecks, sizeChecks};
 
 // "each 1 to 16,384"
 fn size_fits(n: usize) -> bool

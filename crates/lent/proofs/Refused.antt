@@ -1,4 +1,4 @@
--- Document 01, "Refusal numbers", 1 to 4: each as src/lent.rt finds it, and what is known once there is none. Assumes nothing.
+-- Document 01, "Refusal numbers", 1 to 4: each as src/lib.rt finds it, and what is known once there is none. Assumes nothing.
 use mathlib.Core.Path.{_≡_, refl, sym, ap, _∙_}
 use mathlib.Core.Bool.{Bool, true, false, not, _&&_, _||_}
 use Prim.Native.Nat.{ℕ, zero, suc, _*_, _%_, _^_, _≤_, _<_}
@@ -19,9 +19,10 @@ use Rattle.scope.specs.declared.Place.{Place}
 use Rattle.scope.specs.declared.Place.the-variants.{Nothing}
 use Rattle.scope.specs.declared.Answer.{Answer}
 use Rattle.scope.specs.declared.Answer.the-variants.{Done, Refused}
-use Rattle.figures.specs.Sound as sound
-use Rattle.figures.specs.Sound.{Sound, shapeChecks, sizeChecks}
+use Rattle.figures.specs.Sound.{Sound}
 use Rattle.figures.proofs.Figures.{product-most, few-planes}
+use Rattle.lent.specs.Steps as steps
+use Rattle.lent.specs.Steps.{shapeChecks, sizeChecks}
 
 -- ---- tests that are called one after the other
 
@@ -174,7 +175,7 @@ fitting deep g e =
 
 module _ (deep : Bool) (g : Geometry) where
   pub shape-1 : (r : Bool) → r ≡ geometryFits deep g → not r ≡ true → Refused 1 Nothing ≡ shapeChecks deep g
-  unfolding sound.shapeChecks
+  unfolding steps.shapeChecks
   shape-1 r e t = rw (no-is r _ e t)
 
   module _ (a : Bool) (ea : a ≡ geometryFits deep g) (ta : not a ≡ false) where
@@ -185,21 +186,21 @@ module _ (deep : Bool) (g : Geometry) where
     down-some = fitting deep g (yes-is a _ ea ta) .down .0
 
     pub shape-2w : (r : Bool) → r ≡ eqb (g .width % g .sx) 0 → not r ≡ true → Refused 2 Nothing ≡ shapeChecks deep g
-    unfolding sound.shapeChecks geo.factorsDivide
+    unfolding steps.shapeChecks geo.factorsDivide
     shape-2w r e t = rw (yes-is a _ ea ta, no-is r _ e t)
 
     module _ (b : Bool) (eb : b ≡ eqb (g .width % g .sx) 0) (tb : not b ≡ false) where
       pub shape-2h : (r : Bool) → r ≡ eqb (g .height % g .sy) 0 → not r ≡ true → Refused 2 Nothing ≡ shapeChecks deep g
-      unfolding sound.shapeChecks geo.factorsDivide
+      unfolding steps.shapeChecks geo.factorsDivide
       shape-2h r e t = rw (yes-is a _ ea ta, yes-is b _ eb tb, no-is r _ e t)
 
       module _ (d : Bool) (ed : d ≡ eqb (g .height % g .sy) 0) (td : not d ≡ false) where
         pub shape-3 : (r : Bool) → r ≡ eqb (g .«slice_height» % g .sy) 0 → not r ≡ true → Refused 3 Nothing ≡ shapeChecks deep g
-        unfolding sound.shapeChecks geo.factorsDivide geo.sliceHeightDivides
+        unfolding steps.shapeChecks geo.factorsDivide geo.sliceHeightDivides
         shape-3 r e t = rw (yes-is a _ ea ta, yes-is b _ eb tb, yes-is d _ ed td, no-is r _ e t)
 
         pub shape-0 : (r : Bool) → r ≡ eqb (g .«slice_height» % g .sy) 0 → not r ≡ false → Done ≡ shapeChecks deep g
-        unfolding sound.shapeChecks geo.factorsDivide geo.sliceHeightDivides
+        unfolding steps.shapeChecks geo.factorsDivide geo.sliceHeightDivides
         shape-0 r e t = rw (yes-is a _ ea ta, yes-is b _ eb tb, yes-is d _ ed td, yes-is r _ e t)
 
 pub ruleset shapes = (shape-1, shape-2w, shape-2h, shape-3, shape-0, across-some, down-some, needs)
@@ -230,15 +231,15 @@ module _ (deep : Bool) (g : Geometry) (e : shapeChecks deep g ≡ Done) where
   three = refuseIf (not (sliceHeightDivides g)) 3 Nothing
 
   fit : Fitting deep g
-  unfolding sound.shapeChecks one two three
+  unfolding steps.shapeChecks one two three
   fit = fitting deep g (passed (geometryFits deep g) 1 Nothing (first-passed one (two andThen three) e))
 
   divided : factorsDivide g ≡ true
-  unfolding sound.shapeChecks one two three
+  unfolding steps.shapeChecks one two three
   divided = passed (factorsDivide g) 2 Nothing (first-passed two three (then-passed one (two andThen three) e))
 
   sliced : sliceHeightDivides g ≡ true
-  unfolding sound.shapeChecks one two three
+  unfolding steps.shapeChecks one two three
   sliced = passed (sliceHeightDivides g) 3 Nothing (then-passed two three (then-passed one (two andThen three) e))
 
   -- refusals 1 to 3 leave a sound geometry
@@ -276,16 +277,16 @@ module _ (g : Geometry) (lengthsLen planesLen p n : ℕ) (ep : p ≡ planeCount 
   lens = rw (ep, en)
 
   pub size-4l : (lengthsLen ≡ p * n → ⊥) → Refused 4 Nothing ≡ sizeChecks g lengthsLen planesLen
-  unfolding sound.sizeChecks
+  unfolding steps.sizeChecks
   size-4l ne = rw (← lens, ne-eqb lengthsLen (p * n) ne)
 
   module _ (el : lengthsLen ≡ p * n) (q : ℕ) (eq : q ≡ allSamples g) where
     pub size-4p : (planesLen ≡ q → ⊥) → Refused 4 Nothing ≡ sizeChecks g lengthsLen planesLen
-    unfolding sound.sizeChecks
+    unfolding steps.sizeChecks
     size-4p ne = rw (← lens, eq-eqb lengthsLen (p * n) el, ← eq, ne-eqb planesLen q ne)
 
     pub size-0 : planesLen ≡ q → Done ≡ sizeChecks g lengthsLen planesLen
-    unfolding sound.sizeChecks
+    unfolding steps.sizeChecks
     size-0 h = rw (← lens, eq-eqb lengthsLen (p * n) el, ← eq, eq-eqb planesLen q h)
 
 pub ruleset lent-sizes = (lengths-fit, size-4l, size-4p, size-0, needs)
@@ -295,7 +296,7 @@ pub ruleset lent-sizes = (lengths-fit, size-4l, size-4p, size-0, needs)
 module _ (deep : Bool) (g : Geometry) (lengthsLen planesLen : ℕ) where
   -- they are the two steps one after the other
   pub lent-steps : lentChecks deep g lengthsLen planesLen ≡ (shapeChecks deep g andThen sizeChecks g lengthsLen planesLen)
-  unfolding sound.shapeChecks sound.sizeChecks frame.lentChecks
+  unfolding steps.shapeChecks steps.sizeChecks frame.lentChecks
   lent-steps = go (geometryFits deep g) (factorsDivide g) (sliceHeightDivides g) (sizes)
     where
       sizes : Answer
@@ -323,7 +324,7 @@ module _ (deep : Bool) (g : Geometry) (lengthsLen planesLen : ℕ) where
     lent-depth = shape-depth deep g (first-passed (shapeChecks deep g) _ (sym lent-steps ∙ e))
 
     sizes-passed : (eqb lengthsLen (planeCount g * 2 ^ g .depth) && eqb planesLen (allSamples g)) ≡ true
-    unfolding sound.sizeChecks
+    unfolding steps.sizeChecks
     sizes-passed = passed _ 4 Nothing (then-passed (shapeChecks deep g) _ (sym lent-steps ∙ e))
 
     -- the lengths are P·2^depth

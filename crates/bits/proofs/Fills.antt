@@ -1,0 +1,65 @@
+-- The loop that fills a lent slice front to back with a list that is known beforehand, one store a turn, and the two lists that
+-- this crate fills one with: bytes as they stand, and packed samples (document 01, "Layout"). Assumes nothing.
+use mathlib.Core.Path.{_≡_, refl, sym, ap, _∙_}
+use Prim.Native.Nat.{ℕ, zero, suc, _+_, _-_, _*_, _≤_, _<_}
+use native.Mathlib.Numerals.{add-one}
+use native.Mathlib.Omega.{arith}
+use mathlib.Core.List.{List, [], _∷_, _++_}
+use borrow.Author.Needs.{needs}
+use lib.ListN.{length, take, drop, getD, set, length-set, length-take, length-drop}
+use lib.Seq.{take-suc, take-suc-set, take-all, getD-take, getD-drop}
+use Rattle.scope.specs.Bits.{window, packedFrom, rawSamples}
+use Rattle.bits.proofs.Windows.{packed-length, packed-at, raw-bytes}
+
+-- s holds the first i elements of ys, and has room for all
+pub record Fills (ys s : List ℕ) (i : ℕ) : Type 0 where
+  pub made : take i s ≡ take i ys
+  pub within : i ≤ length s
+  pub same : length s ≡ length ys
+
+module _ (ys : List ℕ) where
+  pub fills-start : (s : List ℕ) → length s ≡ length ys → Fills ys s 0
+  fills-start s e = record { made = refl; within = omega arith; same = e }
+
+  module _ (s : List ℕ) (i : ℕ) (d : Fills ys s i) where
+    pub fills-step : (v : ℕ) → i < length s → v ≡ getD ys i 0 → Fills ys (set s i v) (i + 1)
+    fills-step v h e =
+        let l : i < length ys = omega arith in
+        record {
+          made = rw (add-one, take-suc-set, take-suc ys i 0 l, d .made, e);
+          within = simp length-set (omega arith);
+          same = simp length-set (d .same);
+        }
+
+    pub fills-end : length s ≤ i → s ≡ ys
+    fills-end h =
+        let l : length ys ≤ i = omega arith in
+        sym (take-all i s h) ∙ d .made ∙ take-all i ys l
+
+-- ---- bytes as they stand
+
+module _ (src : List ℕ) (from : ℕ) (s₀ : List ℕ) (h : from + length s₀ ≤ length src) where
+  pub copy-start : Fills (rawSamples 8 (drop from src) (length s₀)) s₀ 0
+  copy-start = fills-start _ s₀ (rw raw-bytes (simp (length-take, length-drop) (omega arith)))
+
+  pub copy-step : (s : List ℕ) (i v : ℕ) → Fills (rawSamples 8 (drop from src) (length s₀)) s i → length s ≡ length s₀ → i < length s → v ≡ getD src (from + i) 0 → Fills (rawSamples 8 (drop from src) (length s₀)) (set s i v) (i + 1)
+  copy-step s i v d k l e =
+      let m : i < length s₀ = omega arith in
+      fills-step _ s i d v l (e ∙ sym (rw raw-bytes (getD-take (length s₀) (drop from src) i 0 m ∙ getD-drop from src i 0)))
+
+-- ---- packed samples
+
+module _ (depth : ℕ) (payload : List ℕ) (at : ℕ) (s₀ : List ℕ) where
+  pub unpack-start : Fills (packedFrom depth payload at (length s₀)) s₀ 0
+  unpack-start = fills-start _ s₀ (sym (packed-length depth payload at (length s₀)))
+
+  pub unpack-step : (s : List ℕ) (i p v : ℕ) → Fills (packedFrom depth payload at (length s₀)) s i → length s ≡ length s₀ → p ≡ at + i * depth → i < length s → v ≡ window payload p depth → Fills (packedFrom depth payload at (length s₀)) (set s i v) (i + 1)
+  unpack-step s i p v d k q l e =
+      let m : i < length s₀ = omega arith in
+      fills-step _ s i d v l (e ∙ rw q (sym (packed-at depth payload at (length s₀) i m)))
+
+-- where the next sample stands
+pub next-sample : (at i p depth : ℕ) → p ≡ at + i * depth → p + depth ≡ at + (i + 1) * depth
+next-sample at i p depth e = omega arith
+
+pub ruleset fills = (fills-end, copy-start, copy-step, unpack-start, unpack-step, next-sample, needs)

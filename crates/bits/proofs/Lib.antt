@@ -1,0 +1,3 @@
+pub mod Windows
+pub mod Fills
+pub mod Once

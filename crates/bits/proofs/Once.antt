@@ -1,0 +1,26 @@
+-- Any two outcomes that a public function's statement allows are equal. `Post` is the plain reading that Rattle itself makes of
+-- the `ensures` clauses of src/, so these are about the contracts and about nothing that restates them. Assumes nothing.
+use mathlib.Core.Path.{_≡_, sym, _∙_}
+use contract.Lifetimes.{Lfts}
+use borrow.Fn.World.{ArgsD, ResD}
+use denote.Triple.Clauses.{AtExit}
+use denote.Ref.{now}
+use Rattle.bits.proofs.peek as peek
+use Rattle.bits.proofs.peek.Reads as peek-reads
+use Rattle.bits.proofs.copy_bytes as copy-bytes
+use Rattle.bits.proofs.copy_bytes.Reads as copy-bytes-reads
+use Rattle.bits.proofs.unpack_from as unpack-from
+use Rattle.bits.proofs.unpack_from.Reads as unpack-from-reads
+
+pub peek-once : (κs : Lfts 1) (a : ArgsD peek.signature κs) (r₁ r₂ : ResD peek.signature κs) (s₁ s₂ : AtExit peek.ended κs)
+    → peek-reads.Post κs a r₁ s₁ → peek-reads.Post κs a r₂ s₂ → r₁ ≡ r₂
+peek-once κs a r₁ r₂ s₁ s₂ p q = p ∙ sym q
+
+-- of a copy and of an unpacking the outcome is what the lent buffer then holds
+pub copy-bytes-once : (κs : Lfts 2) (a : ArgsD copy-bytes.signature κs) (r₁ r₂ : ResD copy-bytes.signature κs) (s₁ s₂ : AtExit copy-bytes.ended κs)
+    → copy-bytes-reads.Post κs a r₁ s₁ → copy-bytes-reads.Post κs a r₂ s₂ → now (s₁ .1 .1 .0) ≡ now (s₂ .1 .1 .0)
+copy-bytes-once κs a r₁ r₂ s₁ s₂ p q = p ∙ sym q
+
+pub unpack-from-once : (κs : Lfts 2) (a : ArgsD unpack-from.signature κs) (r₁ r₂ : ResD unpack-from.signature κs) (s₁ s₂ : AtExit unpack-from.ended κs)
+    → unpack-from-reads.Post κs a r₁ s₁ → unpack-from-reads.Post κs a r₂ s₂ → now (s₁ .1 .1 .1 .0) ≡ now (s₂ .1 .1 .1 .0)
+unpack-from-once κs a r₁ r₂ s₁ s₂ p q = p ∙ sym q

@@ -1,0 +1,16 @@
+use Rattle.bits.proofs.Windows.{windows}
+use borrow.Author.Needs.{needs}
+use Rattle.bits.proofs.sample_at.Statement.{statement}
+use Rattle.bits.proofs.sample_at.Tie as tie
+
+peek-requires : tie.Need-peek-requires
+peek-requires c κs = search needs
+
+cast-result : tie.Need-cast-result
+cast-result c = search windows
+
+returns : tie.Need-returns
+returns c = search needs
+
+pub sample-at-spec : {M : Type 1} → statement M
+sample-at-spec = tie.close (tie.spec peek-requires cast-result returns)

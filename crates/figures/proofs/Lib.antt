@@ -1,0 +1,5 @@
+pub mod Order
+pub mod Places
+pub mod Counts
+pub mod Figures
+pub mod Refused

@@ -1,0 +1,82 @@
+use Rattle.scope.specs.Geometry as geo
+use Rattle.figures.proofs.Refused.{chained}
+use native.Mathlib.Omega.{arith}
+use borrow.Author.Needs.{needs}
+use Rattle.figures.proofs.lent.geometry_fits.Statement.{statement}
+use Rattle.figures.proofs.lent.geometry_fits.Tie as tie
+use Rattle.figures.proofs.lent.geometry_fits.Reads as reads
+use Rattle.figures.proofs.lent.geometry_fits.Lts as lts
+use Rattle.figures.proofs.lent.depth_fits.Reads as depth-fits-reads
+use Rattle.figures.proofs.lent.factor_fits.Reads as factor-fits-reads
+use Rattle.figures.proofs.lent.size_fits.Reads as size-fits-reads
+
+-- src/lent.rt:61:9
+size-fits-requires : tie.Need-size-fits-requires
+size-fits-requires c κs = search needs
+
+-- src/lent.rt:62:9
+returns : tie.Need-returns
+unfolding geo.geometryFits
+returns c = search chained depth 14
+
+-- src/lent.rt:64:9
+size-fits-requires-2 : tie.Need-size-fits-requires-2
+size-fits-requires-2 c κs = search needs
+
+-- src/lent.rt:65:9
+returns-2 : tie.Need-returns-2
+unfolding geo.geometryFits
+returns-2 c = search chained depth 14 fits 20000
+
+-- src/lent.rt:67:9
+size-fits-requires-3 : tie.Need-size-fits-requires-3
+size-fits-requires-3 c κs = search needs
+
+-- src/lent.rt:68:9
+returns-3 : tie.Need-returns-3
+unfolding geo.geometryFits
+returns-3 c = search chained depth 14 fits 20000
+
+-- src/lent.rt:70:9
+factor-fits-requires : tie.Need-factor-fits-requires
+factor-fits-requires c κs = search needs
+
+-- src/lent.rt:71:9
+returns-4 : tie.Need-returns-4
+unfolding geo.geometryFits
+returns-4 c = search chained depth 14 fits 20000
+
+-- src/lent.rt:73:9
+factor-fits-requires-2 : tie.Need-factor-fits-requires-2
+factor-fits-requires-2 c κs = search needs
+
+-- src/lent.rt:74:9
+returns-5 : tie.Need-returns-5
+unfolding geo.geometryFits
+returns-5 c = search chained depth 14
+
+-- src/lent.rt:76:5
+depth-fits-requires : tie.Need-depth-fits-requires
+depth-fits-requires c κs = search needs
+
+-- src/lent.rt:57:1
+returns-6 : tie.Need-returns-6
+unfolding geo.geometryFits
+returns-6 c = search chained depth 14
+
+pub geometry-fits-spec : {M : Type 1} → statement M
+geometry-fits-spec =
+    tie.close
+    (tie.spec
+    size-fits-requires
+    returns
+    size-fits-requires-2
+    returns-2
+    size-fits-requires-3
+    returns-3
+    factor-fits-requires
+    returns-4
+    factor-fits-requires-2
+    returns-5
+    depth-fits-requires
+    returns-6)

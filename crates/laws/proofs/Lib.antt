@@ -1,0 +1,11 @@
+pub mod Windows
+pub mod Counts
+pub mod Words
+pub mod Kraft
+pub mod Accumulator
+pub mod Heads
+pub mod Lists
+pub mod Chains
+pub mod Shifts
+pub mod Table
+pub mod Lookup

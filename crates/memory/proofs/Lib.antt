@@ -1,0 +1,6 @@
+pub mod InPlace
+pub mod Loops
+pub mod Powers
+pub mod Clearing
+pub mod Sums
+pub mod Once

@@ -1,0 +1,31 @@
+-- 2^depth for depths up to 16, as the code has it: a shift, a divisor, and a cap on what a remainder can be. Document 01,
+-- "All sums are modulo 2^depth". Assumes nothing.
+use mathlib.Core.Path.{_≡_}
+use Prim.Native.Nat.{ℕ, _*_, _%_, _^_, _≤_, _<_}
+use native.Mathlib.Nat.{one-mul, mod-eq-of-lt, mod-lt}
+use native.Mathlib.Omega.{arith}
+use lib.Pow.{pow-pos, pow-mono, pow-lt}
+use borrow.Author.Needs.{needs}
+
+-- one shifted by depth
+pub power-shift : (depth : ℕ) → depth ≤ 16 → (1 * 2 ^ depth) % 2 ^ 32 ≡ 2 ^ depth
+power-shift depth h = rw one-mul (mod-eq-of-lt (pow-lt {j = 32} (omega arith)))
+
+-- a power of two is not 0
+pub power-pos : (m depth : ℕ) → m ≡ 2 ^ depth → 0 < m
+power-pos m depth e = rw e (pow-pos depth)
+
+-- it is at most 65,536
+pub power-cap : (m depth : ℕ) → m ≡ 2 ^ depth → depth ≤ 16 → m ≤ 65536
+power-cap m depth e h = rw e (pow-mono {j = 16} h)
+
+-- so a remainder by it has 16 bits
+pub mod-under : (n m depth : ℕ) → m ≡ 2 ^ depth → depth ≤ 16 → n % m < 65536
+mod-under n m depth e h = omega (arith, mod-lt n (power-pos m depth e), power-cap m depth e h)
+
+-- a remainder by m is one by 2^depth
+pub mod-power : (n m depth : ℕ) → m ≡ 2 ^ depth → n % m ≡ n % 2 ^ depth
+mod-power n m depth e = rw e
+
+-- what the answers of a function that takes sums modulo 2^depth search with
+pub ruleset powers = (power-shift, power-pos, power-cap, mod-under, mod-power, needs)

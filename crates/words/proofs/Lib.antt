@@ -1,0 +1,5 @@
+pub mod Counting
+pub mod Walking
+pub mod Weighing
+pub mod Boundary
+pub mod Once

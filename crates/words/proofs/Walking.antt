@@ -1,0 +1,126 @@
+-- The walk from the longest length down to 1, with the running end that starts at all ones and wraps (document 01, "Words and
+-- lookup": "keep that"), against the counting definition of `laws`. Assumes nothing.
+use mathlib.Core.Path.{_≡_, refl, sym, ap, _∙_}
+use Prim.Native.Nat.{ℕ, zero, suc, _+_, _-_, _*_, _/_, _%_, _^_, _≤_, _<_}
+use native.Mathlib.Nat.{sub-self}
+use native.Mathlib.Decide.{ℕ-discrete, decLe}
+use native.Mathlib.Omega.{arith}
+use mathlib.Core.List.{List, [], _∷_}
+use mathlib.Core.Bool.{Bool, true, false, not}
+use lib.Arith.{sub-sub-self}
+use lib.ListN.{length, getD, set, length-set, replicate, getD-replicate}
+use lib.Seq.{getD-set-same, getD-set-other, ext-getD}
+use Rattle.scope.specs.Base.{count, listFrom, listBelow}
+use Rattle.scope.specs.Words.{longest, shares, overfull, startDown, first}
+use Rattle.laws.specs.Tiers.{running, summed}
+use Rattle.laws.proofs.Lists.{getD-below, getD-from, length-listFrom}
+use Rattle.laws.proofs.Heads.{none-at-longest}
+use Rattle.laws.proofs.Kraft.{over-none, over-some}
+use Rattle.laws.proofs.Accumulator.{running-start, accumulator-fits}
+use Rattle.words.specs.Weigh.{firstsOf}
+
+-- ---- the first words
+
+-- element l is the first word of length l
+pub firsts-at : (ls : List ℕ) (l : ℕ) → 0 < l → l ≤ 18 → getD (firstsOf ls) l 0 ≡ first ls l
+unfolding firstsOf
+firsts-at ls zero z h = absurd (omega arith)
+firsts-at ls (suc l) z h = getD-from (first ls) 1 18 l (omega arith) ∙ ap (first ls) (omega arith)
+
+firsts-only : (ls at : List ℕ) → length at ≡ 19 → getD at 0 0 ≡ 0 → ((l : ℕ) → 0 < l → getD at l 0 ≡ first ls l) → at ≡ firstsOf ls
+unfolding firstsOf
+firsts-only ls at n z h = ext-getD 0 at (0 ∷ listFrom (first ls) 1 18) (n ∙ sym (ap suc (length-listFrom (first ls) 1 18))) each
+  where
+    each : (l : ℕ) → l < length at → getD at l 0 ≡ getD (0 ∷ listFrom (first ls) 1 18) l 0
+    each zero b = z
+    each (suc l) b =
+        let p : 0 < suc l = omega arith in
+        let q : suc l ≤ 18 = omega arith in
+        h (suc l) p ∙ sym (firsts-at ls (suc l) p q)
+
+-- ---- before length l
+
+pub record Walked (ls at : List ℕ) (a l : ℕ) : Type 0 where
+  pub within : l ≤ longest ls
+  pub many : length at ≡ 19
+  pub carried : a ≡ running ls (longest ls - l)
+  pub passed : (j : ℕ) → l < j → j ≤ longest ls → summed ls (longest ls - j) < 2 ^ j
+  pub written : (j : ℕ) → l < j → getD at j 0 ≡ first ls j
+  pub blank : (j : ℕ) → j ≤ l → getD at j 0 ≡ 0
+
+zero-at : (z n j : ℕ) → getD (replicate n z) j z ≡ z
+zero-at z zero j = refl
+zero-at z (suc n) zero = refl
+zero-at z (suc n) (suc j) = zero-at z n j
+
+pub walk-start : (ls : List ℕ) (m : ℕ) → m ≡ longest ls → Walked ls (replicate 19 0) 4294967295 m
+unfolding running
+walk-start ls m e = record {
+  within = omega arith;
+  many = refl;
+  carried = rw (e, sub-self (longest ls)) refl;
+  passed = λ j h g. absurd (omega arith);
+  written = λ j h. zero-at 0 19 j ∙ sym (none-at-longest ls j (omega arith));
+  blank = λ j h. zero-at 0 19 j;
+}
+
+module _ (ls at : List ℕ) (a l n s : ℕ) (few : length ls ≤ 16384) (k : longest ls ≤ 18) (z : 0 < l) (w : Walked ls at a l)
+    (en : n ≡ count l ls) (es : s ≡ (a + n) % 2 ^ 32) where
+  -- the sum that is tested
+  sum-is : s ≡ summed ls (longest ls - l)
+  unfolding summed
+  sum-is = es ∙ rw (w .carried, en, sub-sub-self (w .within)) refl
+
+  -- a sum that reaches 2^l is refusal 10
+  pub walk-refused : 2 ^ l ≤ s → overfull ls ≡ true
+  walk-refused b = elim (decLe (shares ls) 262144) [
+    | yes f ↦ absurd (omega (arith, accumulator-fits ls few k .0 f l z (w .within), sum-is))
+    | no f ↦ over-some ls (omega (arith, f))
+  ]
+
+  -- what is written is the first word of length l
+  first-is : (a + 1) % 2 ^ 32 ≡ first ls l
+  unfolding first
+  first-is = ap (λ (x : ℕ). (x + 1) % 2 ^ 32) (w .carried) ∙ running-start ls few (omega (arith, w .within)) (longest ls - l)
+
+  -- and half of the sum is the next running end
+  next : s / 2 ≡ running ls (longest ls - (l - 1))
+  unfolding running summed
+  next =
+      let e : longest ls - (l - 1) ≡ suc (longest ls - l) = omega (arith, w .within) in
+      ap (λ (x : ℕ). x / 2) sum-is ∙ sym (ap (running ls) e)
+
+  pub walk-step : (r : ℕ) → r ≡ (a + 1) % 2 ^ 32 → s < 2 ^ l → Walked ls (set at l r) (s / 2) (l - 1)
+  walk-step r er t = record {
+    within = omega (arith, w .within);
+    many = simp length-set (w .many);
+    carried = next;
+    passed = λ j h g. pass j h g (ℕ-discrete j l);
+    written = λ j h. write j h (ℕ-discrete j l);
+    blank = λ j h. getD-set-other at l j r 0 (omega arith) ∙ w .blank j (omega arith);
+  }
+    where
+      pass : (j : ℕ) → l - 1 < j → j ≤ longest ls → Dec (j ≡ l) → summed ls (longest ls - j) < 2 ^ j
+      pass j h g (yes e) = rw e (omega (arith, sum-is))
+      pass j h g (no e) = w .passed j (omega arith) g
+
+      write : (j : ℕ) → l - 1 < j → Dec (j ≡ l) → getD (set at l r) j 0 ≡ first ls j
+      write j h (yes e) = rw e (getD-set-same at l r 0 (omega (arith, w .within, w .many)) ∙ er ∙ first-is)
+      write j h (no e) = getD-set-other at l j r 0 e ∙ w .written j (omega arith)
+
+-- no sum reaches its power of two: no refusal 10, and the first word of each length
+module _ (ls at : List ℕ) (a l : ℕ) (few : length ls ≤ 16384) (k : longest ls ≤ 18) (w : Walked ls at a l) (e : l ≡ 0) where
+  pub walk-fits : overfull ls ≡ false
+  walk-fits = over-none ls (accumulator-fits ls few k .1 (λ j z h. w .passed j (omega arith) h))
+
+  pub walk-firsts : at ≡ firstsOf ls
+  walk-firsts = firsts-only ls at (w .many) (w .blank 0 (omega arith)) (λ j h. w .written j (omega arith))
+
+-- what `first_words` gives for lengths that pass
+pub started : (ls at : List ℕ) (fits : Bool) → fits ≡ not (overfull ls) → (fits ≡ true → at ≡ firstsOf ls) → shares ls ≤ 262144 → at ≡ firstsOf ls
+started ls at fits e h f = h (e ∙ ap not (over-none ls f))
+
+-- there are 19 of them
+pub firsts-length : (ls : List ℕ) → length (firstsOf ls) ≡ 19
+unfolding firstsOf
+firsts-length ls = ap suc (length-listFrom (first ls) 1 18)

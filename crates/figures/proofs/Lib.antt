@@ -2,4 +2,4 @@ pub mod Order
 pub mod Places
 pub mod Counts
 pub mod Figures
-pub mod Refused
+pub mod Once

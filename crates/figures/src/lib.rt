@@ -1,7 +1,5 @@
 // Document 01, "What comes in" and the first lines of "Layout": the numbers of a geometry that refusals 1 to 3 left, as
 // functions. None of them can run over: sides are at most 16,384, planes at most 4.
-pub mod lent;
-
 use scope::Family;
 use scope::Geometry;
 ghost use mathlib.Core.Path.{_≡_};

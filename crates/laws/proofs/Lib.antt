@@ -5,7 +5,7 @@ pub mod Kraft
 pub mod Accumulator
 pub mod Heads
 pub mod Lists
-pub mod Lookup
 pub mod Chains
 pub mod Shifts
-pub mod Sizes
+pub mod Table
+pub mod Lookup

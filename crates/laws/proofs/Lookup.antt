@@ -24,7 +24,7 @@ use Rattle.laws.proofs.Counts.{which, at-most-longest}
 use Rattle.laws.proofs.Windows.{window-small, window-head}
 use Rattle.laws.proofs.Words.{begins-of-test, FoundIn, found-in}
 use Rattle.laws.proofs.Heads.{head-yes, no-head, no-head-short, heads-first}
-use Rattle.laws.proofs.Lists.{length-listFrom, getD-below}
+use Rattle.laws.proofs.Table.{need-short, need-long, table-length, table-short, table-first, table-second}
 
 -- ---- what a workspace word says
 
@@ -95,54 +95,37 @@ module _ (ls rest payload : List ℕ) (p : ℕ) (fits : longest ls ≤ 18) (full
   unfolding lookupIn wordAt
   lookup-zero h = simp (le-ltb 18 (longest ls) fits, eq-eqb _ _ h) (sym (no-word ls payload p (length ls) h))
 
+  -- a slot of the table is read past nothing that stands behind it
+  in-table : (i : ℕ) → i < need ls → getD (tableOf ls ++ rest) i 0 ≡ getD (tableOf ls) i 0
+  in-table i h =
+      let l : i < length (tableOf ls) = omega (arith, table-length ls) in
+      List·getD-append (tableOf ls) rest 0 i l
+
   lookup-short : (longest ls ≡ 0 → ⊥) → longest ls ≤ 12 → lookupIn (tableOf ls ++ rest) (longest ls) payload p ≡ wordAt ls payload p
-  unfolding lookupIn tableOf
+  unfolding lookupIn
   lookup-short z h =
       let w : ℕ = window payload p (longest ls) in
-      let e₀ : w < length (listFrom (firstPart ls (longest ls)) 0 (2 ^ longest ls)) = omega (arith, length-listFrom (firstPart ls (longest ls)) 0 (2 ^ longest ls), window-small payload p (longest ls)) in
-      let e₁ : getD (listFrom (firstPart ls (longest ls)) 0 (2 ^ longest ls) ++ rest) w 0 ≡ firstPart ls (longest ls) w =
-      List·getD-append (listFrom (firstPart ls (longest ls)) 0 (2 ^ longest ls)) rest 0 w e₀ ∙ getD-below (firstPart ls (longest ls)) (2 ^ longest ls) w (window-small payload p (longest ls)) in
-      let e₂ : firstPart ls (longest ls) w ≡ packed (wordAt ls payload p) = unfold firstPart wordAt in simp (no-head-short ls w (length ls) h, in-all ls payload p (longest ls) (le-refl (longest ls)) (length ls)) in
-      simp (le-ltb 18 (longest ls) fits, ne-eqb _ _ z, le-leb _ _ h) (ap unpacked (e₁ ∙ e₂) ∙ unpacked-packed (wordAt ls payload p) found-small)
-
-  -- the two parts of a table whose longest word is longer than 12
-  partOne : List ℕ
-  partOne = listFrom (firstPart ls 12) 0 4096
-
-  partTwo : List ℕ
-  partTwo = listFrom (λ w. packed (wordIn ls (longest ls) w (length ls))) 0 (heads ls * 2 ^ (longest ls - 12))
-
-  long-table : 12 < longest ls → tableOf ls ≡ partOne ++ partTwo
-  unfolding tableOf slots partOne partTwo
-  long-table h =
-      let z : longest ls ≡ 0 → ⊥ = λ e. omega arith in
-      simp (ne-eqb _ _ z, lt-leb _ _ h)
-
-  one-length : length partOne ≡ 4096
-  unfolding partOne
-  one-length = length-listFrom (firstPart ls 12) 0 4096
+      let b : w < 2 ^ longest ls = window-small payload p (longest ls) in
+      let e₁ : getD (tableOf ls ++ rest) w 0 ≡ firstPart ls (longest ls) w = in-table w (rw (need-short ls h) b) ∙ table-short ls w h b in
+      let e₂ : firstPart ls (longest ls) w ≡ packed (wordAt ls payload p) =
+      unfold firstPart wordAt in simp (no-head-short ls w (length ls) h, in-all ls payload p (longest ls) (le-refl (longest ls)) (length ls)) in
+      simp (le-ltb 18 (longest ls) fits, ne-eqb _ _ z, le-leb _ _ h)
+      (ap unpacked (e₁ ∙ e₂) ∙ unpacked-packed (wordAt ls payload p) found-small)
 
   one-at : 12 < longest ls → getD (tableOf ls ++ rest) (window payload p 12) 0 ≡ firstPart ls 12 (window payload p 12)
-  unfolding partOne
   one-at h =
-      let l : window payload p 12 < length partOne = omega (arith, one-length, window-small payload p 12) in
-      let l′ : window payload p 12 < length (partOne ++ partTwo) = omega (arith, length-append partOne partTwo) in
-      ap (λ (t : List ℕ). getD (t ++ rest) (window payload p 12) 0) (long-table h) ∙ List·getD-append (partOne ++ partTwo) rest 0 (window payload p 12) l′
-      ∙ List·getD-append partOne partTwo 0 (window payload p 12) l
-      ∙ getD-below (firstPart ls 12) 4096 (window payload p 12) (window-small payload p 12)
+      let b : window payload p 12 < 4096 = window-small payload p 12 in
+      in-table (window payload p 12) (omega (arith, need-long ls h)) ∙ table-first ls (window payload p 12) h b
 
-  two-at : 12 < longest ls → window payload p 12 < heads ls → getD (tableOf ls ++ rest) (4096 + window payload p (longest ls)) 0 ≡ packed (wordAt ls payload p)
-  unfolding partTwo wordAt
+  two-at : 12 < longest ls → window payload p 12 < heads ls
+      → getD (tableOf ls ++ rest) (4096 + window payload p (longest ls)) 0 ≡ packed (wordAt ls payload p)
+  unfolding wordAt
   two-at h a =
       let w : ℕ = window payload p (longest ls) in
       let q : w / 2 ^ (longest ls - 12) ≡ window payload p 12 = window-head payload p 12 (longest ls) (omega arith) in
-      let l : w < heads ls * 2 ^ (longest ls - 12) = div-lt-iff-lt-mul (pow-pos (longest ls - 12)) .0 (subst⁻¹ (λ (k : ℕ). k < heads ls) q a) in
-      let z : 4096 + w < length (partOne ++ partTwo) = omega (arith, length-append partOne partTwo, one-length, length-listFrom (λ v. packed (wordIn ls (longest ls) v (length ls))) 0 (heads ls * 2 ^ (longest ls - 12))) in
-      ap (λ (t : List ℕ). getD (t ++ rest) (4096 + w) 0) (long-table h)
-      ∙ List·getD-append (partOne ++ partTwo) rest 0 (4096 + w) z
-      ∙ ap (λ (k : ℕ). getD (partOne ++ partTwo) (k + w) 0) (sym one-length)
-      ∙ getD-append-add partOne partTwo w 0
-      ∙ getD-below (λ v. packed (wordIn ls (longest ls) v (length ls))) (heads ls * 2 ^ (longest ls - 12)) w l
+      let b : w < heads ls * 2 ^ (longest ls - 12) =
+      div-lt-iff-lt-mul (pow-pos (longest ls - 12)) .0 (subst⁻¹ (λ (k : ℕ). k < heads ls) q a) in
+      in-table (4096 + w) (omega (arith, need-long ls h)) ∙ table-second ls w h b
       ∙ ap packed (in-all ls payload p (longest ls) (le-refl (longest ls)) (length ls))
 
   is-head : 12 < longest ls → headBelow ls (window payload p 12) (length ls) ≡ true → window payload p 12 < heads ls

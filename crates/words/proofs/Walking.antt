@@ -119,3 +119,8 @@ module _ (ls at : List ℕ) (a l : ℕ) (few : length ls ≤ 16384) (k : longest
 -- what `first_words` gives for lengths that pass
 pub started : (ls at : List ℕ) (fits : Bool) → fits ≡ not (overfull ls) → (fits ≡ true → at ≡ firstsOf ls) → shares ls ≤ 262144 → at ≡ firstsOf ls
 started ls at fits e h f = h (e ∙ ap not (over-none ls f))
+
+-- there are 19 of them
+pub firsts-length : (ls : List ℕ) → length (firstsOf ls) ≡ 19
+unfolding firstsOf
+firsts-length ls = ap suc (length-listFrom (first ls) 1 18)

@@ -1,18 +1,13 @@
 use Rattle.scope.specs.Geometry as geo
 use Rattle.figures.proofs.Figures.{sides}
 use borrow.Author.Needs.{needs}
-use native.Mathlib.Omega.{arith}
 use Rattle.figures.proofs.fields_of.Statement.{statement}
 use Rattle.figures.proofs.fields_of.Tie as tie
-use Rattle.figures.proofs.fields_of.Reads as reads
-use Rattle.figures.proofs.fields_of.Lts as lts
 
--- src/lib.rt:114:9
 returns : tie.Need-returns
 unfolding geo.fields
 returns c = (search sides, search needs, search needs)
 
--- src/lib.rt:110:1
 returns-2 : tie.Need-returns-2
 unfolding geo.fields
 returns-2 c = (search sides, search needs, search needs)

@@ -1,27 +1,19 @@
 use Rattle.scope.specs.Geometry as geo
 use Rattle.figures.proofs.Figures.{sides}
-use native.Mathlib.Omega.{arith}
 use borrow.Author.Needs.{needs}
 use Rattle.figures.proofs.plane_height.Statement.{statement}
 use Rattle.figures.proofs.plane_height.Tie as tie
-use Rattle.figures.proofs.plane_height.Reads as reads
-use Rattle.figures.proofs.plane_height.Lts as lts
-use Rattle.figures.proofs.is_small.Reads as is-small-reads
 
--- src/lib.rt:84:8
 is-small-requires : tie.Need-is-small-requires
 is-small-requires c κs = search needs
 
--- src/lib.rt:85:16
 div-result : tie.Need-div-result
 div-result c = search needs
 
--- src/lib.rt:85:9
 returns : tie.Need-returns
 unfolding geo.planeHeight
 returns c = (search sides, search sides, search sides)
 
--- src/lib.rt:80:1
 returns-2 : tie.Need-returns-2
 unfolding geo.planeHeight
 returns-2 c = (search sides, search needs, search needs)

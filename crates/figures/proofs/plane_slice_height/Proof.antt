@@ -1,27 +1,19 @@
 use Rattle.scope.specs.Geometry as geo
 use Rattle.figures.proofs.Figures.{sides}
-use native.Mathlib.Omega.{arith}
 use borrow.Author.Needs.{needs}
 use Rattle.figures.proofs.plane_slice_height.Statement.{statement}
 use Rattle.figures.proofs.plane_slice_height.Tie as tie
-use Rattle.figures.proofs.plane_slice_height.Reads as reads
-use Rattle.figures.proofs.plane_slice_height.Lts as lts
-use Rattle.figures.proofs.is_small.Reads as is-small-reads
 
--- src/lib.rt:94:8
 is-small-requires : tie.Need-is-small-requires
 is-small-requires c κs = search needs
 
--- src/lib.rt:95:16
 div-result : tie.Need-div-result
 div-result c = search needs
 
--- src/lib.rt:95:9
 returns : tie.Need-returns
 unfolding geo.planeSliceHeight
 returns c = (search sides, search sides, search sides)
 
--- src/lib.rt:90:1
 returns-2 : tie.Need-returns-2
 unfolding geo.planeSliceHeight
 returns-2 c = (search sides, search needs, search needs)

@@ -4,12 +4,8 @@ use Rattle.scope.specs.Base.{sumBelow}
 use Rattle.scope.specs.Geometry.{planeSamples}
 use Rattle.figures.proofs.Figures.{sums}
 use borrow.Author.Needs.{needs}
-use native.Mathlib.Omega.{arith}
 use Rattle.figures.proofs.samples_below.Statement.{statement}
 use Rattle.figures.proofs.samples_below.Tie as tie
-use Rattle.figures.proofs.samples_below.Reads as reads
-use Rattle.figures.proofs.samples_below.Lts as lts
-use Rattle.figures.proofs.plane_samples.Reads as plane-samples-reads
 
 abbrev Inv-loop : tie.InvT-loop
 Inv-loop g n at₀ b₀ at b = (at ≡ sumBelow b (planeSamples g)) × (at ≤ b * 268435456) × (b ≤ n) × (n ≤ 4)
@@ -17,31 +13,24 @@ Inv-loop g n at₀ b₀ at b = (at ≡ sumBelow b (planeSamples g)) × (at ≤ b
 abbrev μ-loop : tie.MeasureT-loop
 μ-loop g n at₀ b₀ at b = n - b
 
--- src/lib.rt:154:5
 loop-holds : tie.Need-loop-holds Inv-loop μ-loop
 loop-holds c = (search sums, search needs, search needs, search needs)
 
--- src/lib.rt:155:15
 plane-samples-requires : tie.Need-plane-samples-requires Inv-loop μ-loop
 plane-samples-requires c κs = search needs
 
--- src/lib.rt:155:9
 add-at : tie.Need-add-at Inv-loop μ-loop
 add-at c = search needs
 
--- src/lib.rt:156:9
 add-b : tie.Need-add-b Inv-loop μ-loop
 add-b c = search needs
 
--- src/lib.rt:154:5
 loop-less : tie.Need-loop-less Inv-loop μ-loop
 loop-less c = search needs
 
--- src/lib.rt:154:5
 loop-again : tie.Need-loop-again Inv-loop μ-loop
 loop-again c = (search sums, search needs, search needs, search needs)
 
--- src/lib.rt:147:1
 returns : tie.Need-returns Inv-loop μ-loop
 returns c = (search sums, search sums)
 

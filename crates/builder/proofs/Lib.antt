@@ -1,0 +1,4 @@
+pub mod Filling
+pub mod Rows
+pub mod Placing
+pub mod Written

@@ -1,0 +1,217 @@
+-- The loop that places the symbols' words, one pass over the lengths (document 01, "Words and lookup": "given to symbols in ascending
+-- order"). Assumes nothing.
+use mathlib.Core.Path.{_≡_, refl, sym, ap, ap₂, _∙_, subst, subst⁻¹, subst₂}
+use Prim.Native.Nat.{ℕ, zero, suc, _+_, _-_, _*_, _/_, _%_, _^_, _≤_, _<_, min}
+use native.Mathlib.Nat.{zero-add, mul-le-mul-left, mul-one}
+use native.Mathlib.Numerals.{add-one}
+use native.Mathlib.Decide.{ℕ-discrete, decLe, decLt}
+use native.Mathlib.Omega.{arith}
+use mathlib.Core.List.{List}
+use lib.Dec.{eqb}
+use lib.Pow.{pow-pos}
+use lib.ListN.{length, take, getD, set, length-set}
+use lib.Seq.{getD-set-same, getD-set-other}
+use Rattle.scope.specs.Base.{one, count}
+use Rattle.scope.specs.Words.{longest, lengthOf, wordOf, first, heads}
+use Rattle.scope.specs.Lookup.{packed, wordIn}
+use Rattle.laws.proofs.Counts.{at-most-longest, count-next, one-same, one-other}
+use Rattle.laws.proofs.Shifts.{shl-one}
+use Rattle.laws.proofs.Table.{slot-hit, slot-miss}
+use Rattle.words.specs.Weigh.{firstsOf}
+use Rattle.words.proofs.Walking.{firsts-at, firsts-length}
+use Rattle.builder.specs.Slots.{slotBits, slotBase, Filled, Row, Ready, Slotted}
+use Rattle.builder.proofs.Filling.{bits-first, base-first, bits-second, base-second}
+use Rattle.builder.proofs.Rows.{row-of, of-row, first-room, second-room, short-row, long-row, row, apart}
+
+-- ---- what `put` computes
+
+module _ (m l s w n : ℕ) (r : Row m l s w n) (k b : ℕ) (ek : k ≡ slotBits m l) (eb : b ≡ slotBase l) where
+  pub size-is : 1 * 2 ^ (k - l) % 2 ^ 64 ≡ 2 ^ (slotBits m l - l)
+  size-is = shl-one 64 (k - l) (omega (arith, r .small)) ∙ ap (λ (x : ℕ). 2 ^ (x - l)) ek
+
+  pub from-is : b + w * (1 * 2 ^ (k - l) % 2 ^ 64) ≡ slotBase l + w * 2 ^ (slotBits m l - l)
+  from-is = ap₂ (λ (x y : ℕ). x + w * y) eb size-is
+
+  pub row-fits : b + w * (1 * 2 ^ (k - l) % 2 ^ 64) + 1 * 2 ^ (k - l) % 2 ^ 64 ≤ n
+  row-fits = rw (from-is, size-is) (r .inside)
+
+-- ---- one part of the table: n slots of k bits, from `base` on
+
+abbrev Part : List ℕ → ℕ → ℕ → ℕ → List ℕ → ℕ → Type 0
+Part ls k base n ws s = (i : ℕ) → i < n → getD ws (base + i) 0 ≡ packed (wordIn ls k i s)
+
+-- symbol s's row is written in it
+hits : (ls : List ℕ) (k base n : ℕ) (ws ws′ : List ℕ) (s : ℕ) → 0 < lengthOf ls s → lengthOf ls s ≤ k
+    → Filled ws (base + wordOf ls s * 2 ^ (k - lengthOf ls s)) (2 ^ (k - lengthOf ls s)) (s * 256 + lengthOf ls s) ws′
+    → Part ls k base n ws s → Part ls k base n ws′ (suc s)
+unfolding packed
+hits ls k base n ws ws′ s z g f p i a = go (decLe from i) (decLt i (from + size))
+  where
+    size : ℕ
+    size = 2 ^ (k - lengthOf ls s)
+
+    from : ℕ
+    from = wordOf ls s * 2 ^ (k - lengthOf ls s)
+
+    go : Dec (from ≤ i) → Dec (i < from + size) → getD ws′ (base + i) 0 ≡ packed (wordIn ls k i (suc s))
+    go (yes lo) (yes hi) =
+        f .inside (base + i) (omega arith) (omega arith)
+        ∙ sym (ap packed (slot-hit ls k i s z g (row-of (wordOf ls s) i (k - lengthOf ls s) lo hi)))
+    go (no lo) d =
+        f .before (base + i) (omega arith) ∙ p i a
+        ∙ sym (ap packed (slot-miss ls k i s (λ _ _ e. lo (of-row (wordOf ls s) i (k - lengthOf ls s) e .0))))
+    go (yes lo) (no hi) =
+        f .behind (base + i) (omega arith) ∙ p i a
+        ∙ sym (ap packed (slot-miss ls k i s (λ _ _ e. hi (of-row (wordOf ls s) i (k - lengthOf ls s) e .1))))
+
+-- no slot of it begins with symbol s's word, and none of it is written
+misses : (ls : List ℕ) (k base n : ℕ) (ws ws′ : List ℕ) (s : ℕ) → ((i : ℕ) → i < n → getD ws′ (base + i) 0 ≡ getD ws (base + i) 0)
+    → ((i : ℕ) → i < n → lengthOf ls s ≤ k → 0 < lengthOf ls s → i / 2 ^ (k - lengthOf ls s) ≡ wordOf ls s → ⊥)
+    → Part ls k base n ws s → Part ls k base n ws′ (suc s)
+misses ls k base n ws ws′ s same o p i a = same i a ∙ p i a ∙ sym (ap packed (slot-miss ls k i s (o i a)))
+
+-- the first part begins at 0
+to-part : (ls : List ℕ) (k n : ℕ) (ws : List ℕ) (s : ℕ) → ((i : ℕ) → i < n → getD ws i 0 ≡ packed (wordIn ls k i s)) → Part ls k 0 n ws s
+to-part ls k n ws s p i a = ap (λ (x : ℕ). getD ws x 0) (zero-add i) ∙ p i a
+
+of-part : (ls : List ℕ) (k n : ℕ) (ws : List ℕ) (s : ℕ) → Part ls k 0 n ws s → (i : ℕ) → i < n → getD ws i 0 ≡ packed (wordIn ls k i s)
+of-part ls k n ws s p i a = ap (λ (x : ℕ). getD ws x 0) (sym (zero-add i)) ∙ p i a
+
+-- ---- before symbol s
+
+pub record Placed (ls : List ℕ) (m n : ℕ) (ws next : List ℕ) (s : ℕ) : Type 0 where
+  pub within : s ≤ length ls
+  pub long : length ws ≡ n
+  pub many : length next ≡ 19
+  pub words : (l : ℕ) → 0 < l → l ≤ 18 → getD next l 0 ≡ first ls l + count l (take s ls)
+  pub slotted : Slotted ls ws s
+
+pub placed-start : (ls : List ℕ) (m n : ℕ) (old ws next : List ℕ) → Ready ls m n → next ≡ firstsOf ls → length ws ≡ n → Filled old 0 n 0 ws
+    → Placed ls m n ws next 0
+unfolding packed wordIn count
+placed-start ls m n old ws next ok e l f = record {
+  within = omega arith;
+  long = l;
+  many = ap length e ∙ firsts-length ls;
+  words = λ l h g. ap (λ (x : List ℕ). getD x l 0) e ∙ omega (arith, firsts-at ls l h g);
+  slotted = record {
+    first = λ i h. f .inside i (omega arith) (omega (arith, first-room ls m n ok));
+    second = λ q i h. f .inside (4096 + i) (omega arith) (omega (arith, second-room ls m n ok q));
+  };
+}
+
+module _ (ls : List ℕ) (m n : ℕ) (ok : Ready ls m n) (ws next : List ℕ) (s : ℕ) (p : Placed ls m n ws next s) (in-ls : s < length ls) where
+  -- no length is above 18
+  pub length-small : lengthOf ls s ≤ 18
+  length-small = omega (arith, at-most-longest ls s, ok .small)
+
+  -- a symbol with no word
+  pub placed-skip : lengthOf ls s ≤ 0 → Placed ls m n ws next (s + 1)
+  placed-skip o = record {
+    within = omega arith;
+    long = p .long;
+    many = p .many;
+    words = λ l h g. p .words l h g ∙ omega (arith, same l h);
+    slotted = rw (add-one s) (record {
+      first = λ i a. p .slotted .first i a ∙ sym (ap packed (slot-miss ls (min (longest ls) 12) i s (λ _ z _. omega arith)));
+      second = λ q i a. p .slotted .second q i a ∙ sym (ap packed (slot-miss ls (longest ls) i s (λ _ z _. omega arith)));
+    });
+  }
+    where
+      same : (l : ℕ) → 0 < l → count l (take (s + 1) ls) ≡ count l (take s ls)
+      same l h = rw (add-one s, count-next ls s l in-ls) (omega (arith, one-other (lengthOf ls s) l (λ (e : lengthOf ls s ≡ l). omega arith)))
+
+  module _ (z : 0 < lengthOf ls s) where
+    -- the next word of its length is the symbol's
+    pub word-is : getD next (lengthOf ls s) 0 ≡ wordOf ls s
+    unfolding wordOf
+    word-is = p .words (lengthOf ls s) z length-small
+
+    -- `put` may write it
+    pub placed-row : Row m (lengthOf ls s) s (getD next (lengthOf ls s) 0) n
+    placed-row = row ls m n ok s in-ls z (getD next (lengthOf ls s) 0) word-is
+
+    -- and it is below 2^18
+    pub word-small : getD next (lengthOf ls s) 0 < 266240
+    word-small =
+        let r = placed-row in
+        let w : ℕ = getD next (lengthOf ls s) 0 in
+        let q : 1 ≤ 2 ^ (slotBits m (lengthOf ls s) - lengthOf ls s) = pow-pos (slotBits m (lengthOf ls s) - lengthOf ls s) in
+        let t : w * 1 ≤ w * 2 ^ (slotBits m (lengthOf ls s) - lengthOf ls s) = mul-le-mul-left w q in
+        omega (arith, r .inside, r .room)
+
+    module _ (ws′ : List ℕ)
+        (f : Filled ws (slotBase (lengthOf ls s) + getD next (lengthOf ls s) 0 * 2 ^ (slotBits m (lengthOf ls s) - lengthOf ls s)) (2 ^ (slotBits m (lengthOf ls s) - lengthOf ls s)) (s * 256 + lengthOf ls s) ws′) where
+      -- the row in slots of k bits from `base` on
+      row-in : (k base : ℕ) → slotBits m (lengthOf ls s) ≡ k → slotBase (lengthOf ls s) ≡ base
+          → Filled ws (base + wordOf ls s * 2 ^ (k - lengthOf ls s)) (2 ^ (k - lengthOf ls s)) (s * 256 + lengthOf ls s) ws′
+      row-in k base ek eb =
+          subst₂ (λ (x y : ℕ). Filled ws x y (s * 256 + lengthOf ls s) ws′)
+          (ap₂ (λ (x y : ℕ). x + getD next (lengthOf ls s) 0 * 2 ^ (y - lengthOf ls s)) eb ek
+          ∙ ap (λ (x : ℕ). base + x * 2 ^ (k - lengthOf ls s)) word-is)
+          (ap (λ (y : ℕ). 2 ^ (y - lengthOf ls s)) ek) f
+
+      short-put : lengthOf ls s ≤ 12 → Slotted ls ws′ (suc s)
+      short-put h =
+          let k : ℕ = min (longest ls) 12 in
+          let g = row-in k 0 (bits-first m (lengthOf ls s) h ∙ ap (λ (x : ℕ). min x 12) (ok .is)) (base-first (lengthOf ls s) h) in
+          record {
+            first = of-part ls k (2 ^ k) ws′ (suc s)
+                (hits ls k 0 (2 ^ k) ws ws′ s z (omega (arith, at-most-longest ls s)) g (to-part ls k (2 ^ k) ws s (p .slotted .first)));
+            second = λ q.
+                misses ls (longest ls) 4096 (heads ls * 2 ^ (longest ls - 12)) ws ws′ s
+                (λ i a. g .behind (4096 + i) (early i q)) (λ i a _ _. apart ls m n ok q s i a z h) (p .slotted .second q);
+          }
+        where
+          early : (i : ℕ) → 12 < longest ls
+              → 0 + wordOf ls s * 2 ^ (min (longest ls) 12 - lengthOf ls s) + 2 ^ (min (longest ls) 12 - lengthOf ls s) ≤ 4096 + i
+          early i q =
+              let e : min (longest ls) 12 ≡ 12 = omega arith in
+              let b : 2 ^ min (longest ls) 12 ≡ 4096 = ap (λ (x : ℕ). 2 ^ x) e in
+              omega (arith, short-row ls m n ok s in-ls z h, b)
+
+      long-put : 12 < lengthOf ls s → Slotted ls ws′ (suc s)
+      long-put h =
+          let g = row-in (longest ls) 4096 (bits-second m (lengthOf ls s) h ∙ ok .is) (base-second (lengthOf ls s) h) in
+          record {
+            first = of-part ls (min (longest ls) 12) (2 ^ min (longest ls) 12) ws′ (suc s)
+                (misses ls (min (longest ls) 12) 0 (2 ^ min (longest ls) 12) ws ws′ s
+                (λ i a. g .before (0 + i) (omega (arith, short i a))) (λ i a b _ _. omega (arith, b))
+                (to-part ls (min (longest ls) 12) (2 ^ min (longest ls) 12) ws s (p .slotted .first)));
+            second = λ q.
+                hits ls (longest ls) 4096 (heads ls * 2 ^ (longest ls - 12)) ws ws′ s z (at-most-longest ls s) g (p .slotted .second q);
+          }
+        where
+          short : (i : ℕ) → i < 2 ^ min (longest ls) 12 → i < 4096
+          short i a =
+              let e : min (longest ls) 12 ≡ 12 = omega (arith, at-most-longest ls s) in
+              let b : 2 ^ min (longest ls) 12 ≡ 4096 = ap (λ (x : ℕ). 2 ^ x) e in
+              omega arith
+
+      -- its row is written, and the next word of its length is one more
+      pub placed-put : length ws′ ≡ length ws → Placed ls m n ws′ (set next (lengthOf ls s) (getD next (lengthOf ls s) 0 + 1)) (s + 1)
+      placed-put len = record {
+        within = omega arith;
+        long = len ∙ p .long;
+        many = simp length-set (p .many);
+        words = λ l a c. rw (add-one s, count-next ls s l in-ls) (words l a c (ℕ-discrete l (lengthOf ls s)));
+        slotted = rw (add-one s) (either (decLe (lengthOf ls s) 12));
+      }
+        where
+          either : Dec (lengthOf ls s ≤ 12) → Slotted ls ws′ (suc s)
+          either (yes h) = short-put h
+          either (no h) = long-put (omega (arith, h))
+
+          words : (l : ℕ) → 0 < l → l ≤ 18 → Dec (l ≡ lengthOf ls s)
+              → getD (set next (lengthOf ls s) (getD next (lengthOf ls s) 0 + 1)) l 0 ≡ first ls l + (count l (take s ls) + one (eqb (lengthOf ls s) l))
+          words l a c (yes e) =
+              rw (e, getD-set-same next (lengthOf ls s) (getD next (lengthOf ls s) 0 + 1) 0 (omega (arith, p .many, length-small)), one-same (lengthOf ls s), p .words (lengthOf ls s) z length-small) (omega arith)
+          words l a c (no e) =
+              getD-set-other next (lengthOf ls s) l (getD next (lengthOf ls s) 0 + 1) 0 e
+              ∙ omega (arith, p .words l a c, one-other (lengthOf ls s) l (λ (q : lengthOf ls s ≡ l). e (sym q)))
+
+-- after all symbols
+pub placed-end : (ls : List ℕ) (m n : ℕ) (ws next : List ℕ) (s : ℕ) → Placed ls m n ws next s → length ls ≤ s → Slotted ls ws (length ls)
+placed-end ls m n ws next s p h =
+    let e : s ≡ length ls = omega (arith, p .within) in
+    subst (λ (x : ℕ). Slotted ls ws x) e (p .slotted)

@@ -1,0 +1,47 @@
+-- `build_part` writes a plane's table into its stretch of the workspace (document 01, "Words and lookup").
+use mathlib.Core.Path.{_≡_, ap}
+use mathlib.Core.List.{List}
+use Prim.Native.Nat.{_-_}
+use borrow.Author.Needs.{needs}
+use Rattle.scope.specs.Base.{replaced}
+use Rattle.builder.proofs.Written.{part-ready}
+use Rattle.builder.proofs.build_part.Statement.{statement}
+use Rattle.builder.proofs.build_part.Tie as tie
+
+mul-write-table : tie.Need-mul-write-table
+mul-write-table c = search needs
+
+sub-write-table : tie.Need-sub-write-table
+sub-write-table c = search needs
+
+part-write-table-start : tie.Need-part-write-table-start
+part-write-table-start c = search needs
+
+part-write-table-end : tie.Need-part-write-table-end
+part-write-table-end c = search needs
+
+write-table-requires : tie.Need-write-table-requires
+write-table-requires c κs =
+    let s = c .before .before .before in
+    let a = s .args in
+    part-ready (a .lengths .now) (a .workspace .now) (a .from) (a .to) (s .pre .0 .0) (s .pre .0 .1) (s .pre .0 .2) (s .pre .1 .0) (s .pre .1 .1) (s .pre .1 .2)
+
+same-length : tie.Need-same-length
+same-length c = search needs
+
+returns : tie.Need-returns
+returns c =
+    let a = c .before .before .before .before .before .before .args in
+    ap (λ (l : List _). replaced (a .workspace .now) (a .from) (a .to - a .from) l) (c .before .before .write-table .ensures)
+
+pub build-part-spec : {M : Type 1} → statement M
+build-part-spec =
+    tie.close
+    (tie.spec
+    mul-write-table
+    sub-write-table
+    part-write-table-start
+    part-write-table-end
+    write-table-requires
+    same-length
+    returns)

@@ -1,0 +1,44 @@
+-- What the functions that write a table ask of each other (document 01, "Words and lookup"). Assumes nothing.
+use mathlib.Core.Path.{_≡_}
+use Prim.Native.Nat.{ℕ, _+_, _-_, _*_, _^_, _≤_, _<_, min}
+use mathlib.Core.Bool.{cond}
+use mathlib.Core.List.{List}
+use lib.Dec.{leb}
+use lib.ListN.{length, getD}
+use Rattle.scope.specs.Words.{longest, heads, shares, need}
+use Rattle.scope.specs.Lookup.{packed, wordIn}
+
+-- words of up to 12 bits stand in the first part, whose slots have at most 12 bits; longer ones in the second, whose slots have all
+-- m bits
+unfoldable pub slotBits : ℕ → ℕ → ℕ
+slotBits m l = cond (leb l 12) (min m 12) m
+
+unfoldable pub slotBase : ℕ → ℕ
+slotBase l = cond (leb l 12) 0 4096
+
+-- ws after n words from `from` on are written with e
+pub record Filled (ws : List ℕ) (from n e : ℕ) (ws′ : List ℕ) : Type 0 where
+  pub inside : (i : ℕ) → from ≤ i → i < from + n → getD ws′ i 0 ≡ e
+  pub before : (i : ℕ) → i < from → getD ws′ i 0 ≡ getD ws i 0
+  pub behind : (i : ℕ) → from + n ≤ i → getD ws′ i 0 ≡ getD ws i 0
+
+-- the slots that begin with symbol s's word w, of l bits, lie within n words
+pub record Row (m l s w n : ℕ) : Type 0 where
+  pub fits : l ≤ slotBits m l
+  pub small : slotBits m l ≤ 18
+  pub few : s < 16384
+  pub inside : slotBase l + w * 2 ^ (slotBits m l - l) + 2 ^ (slotBits m l - l) ≤ n
+  pub room : n ≤ 266240
+
+-- the lengths pass refusals 4, 9 and 10, m is the longest, and n words are the need
+pub record Ready (ls : List ℕ) (m n : ℕ) : Type 0 where
+  pub few : length ls ≤ 16384
+  pub small : longest ls ≤ 18
+  pub full : shares ls ≤ 262144
+  pub is : m ≡ longest ls
+  pub whole : n ≡ need ls
+
+-- each slot holds the word that it begins with, among the symbols below s
+pub record Slotted (ls ws : List ℕ) (s : ℕ) : Type 0 where
+  pub first : (i : ℕ) → i < 2 ^ min (longest ls) 12 → getD ws i 0 ≡ packed (wordIn ls (min (longest ls) 12) i s)
+  pub second : 12 < longest ls → (i : ℕ) → i < heads ls * 2 ^ (longest ls - 12) → getD ws (4096 + i) 0 ≡ packed (wordIn ls (longest ls) i s)

@@ -1,0 +1,5 @@
+pub mod InOrder
+pub mod Slices
+pub mod Going
+pub mod Checks
+pub mod Once

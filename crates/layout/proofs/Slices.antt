@@ -1,0 +1,175 @@
+-- Document 01, "Layout" and refusal 8: the slices in wire order. Each names a plane below P with fewer than K before it, and so the
+-- T = P·K of them are K of each plane. Assumes nothing.
+use mathlib.Core.Path.{_≡_, refl, sym, ap, _∙_}
+use mathlib.Core.Bool.{Bool, true, false}
+use mathlib.Core.List.{List, [], _∷_, _++_}
+use Prim.Native.Nat.{ℕ, zero, suc, _+_, _-_, _*_, _≤_, _<_}
+use native.Mathlib.Decide.{ℕ-discrete}
+use native.Mathlib.Numerals.{add-one}
+use native.Mathlib.Omega.{arith}
+use borrow.Author.Tests.{eq-eqb, ne-eqb, leb-false, le-leb, lt-leb}
+use borrow.Author.Needs.{needs}
+use lib.Dec.{eqb, leb}
+use lib.ListN.{length, getD, set, length-set}
+use lib.Seq.{getD-set-same, getD-set-other}
+use Rattle.scope.specs.Base.{one, sumBelow}
+use Rattle.scope.specs.Refusals.{refuseIf, _andThen_, inOrder}
+use Rattle.scope.specs.Geometry.{planeCount, slicesPerPlane, sliceCount}
+use Rattle.scope.specs.Layout as lay
+use Rattle.scope.specs.Layout.{planeIndex, namedBefore, placeInPlane}
+use Rattle.scope.specs.Frame as frm
+use Rattle.scope.specs.Frame.{indexCheck}
+use Rattle.scope.specs.declared.Geometry.{Geometry}
+use Rattle.scope.specs.declared.Place.the-variants.{Slice}
+use Rattle.scope.specs.declared.Answer.{Answer}
+use Rattle.scope.specs.declared.Answer.the-variants.{Done, Refused}
+use Rattle.figures.proofs.Counts.{all-full, sum-one-more, sum-none}
+use Rattle.layout.proofs.InOrder.{none-yet, one-passed, one-refused, each-passed}
+use Rattle.figures.proofs.Places.{planes-most}
+
+-- the array of counts
+pub record Counted (frame : List ℕ) (g : Geometry) (seen : List ℕ) (s : ℕ) : Type 0 where
+  pub counts : (p : ℕ) → p < planeCount g → getD seen p 0 ≡ namedBefore frame g p s
+  pub four : length seen ≡ 4
+
+module _ (frame : List ℕ) (g : Geometry) where
+  both-passed : (a b : Bool) (n m : ℕ) → Done ≡ (refuseIf a n (Slice m) andThen refuseIf b n (Slice m)) → (a ≡ false) × (b ≡ false)
+  both-passed false false n m e = (refl, refl)
+  both-passed true b n m e = (cc, cc)
+  both-passed false true n m e = (cc, cc)
+
+  pub index-below : (s : ℕ) → Done ≡ indexCheck frame g s → planeIndex frame g s < planeCount g
+  unfolding frm.indexCheck lay.placeInPlane
+  index-below s e = leb-false _ _ (both-passed (leb (planeCount g) (planeIndex frame g s)) (leb (slicesPerPlane g) (namedBefore frame g (planeIndex frame g s) s)) 8 s e .0)
+
+  pub index-room : (s : ℕ) → Done ≡ indexCheck frame g s → namedBefore frame g (planeIndex frame g s) s < slicesPerPlane g
+  unfolding frm.indexCheck lay.placeInPlane
+  index-room s e = leb-false _ _ (both-passed (leb (planeCount g) (planeIndex frame g s)) (leb (slicesPerPlane g) (namedBefore frame g (planeIndex frame g s) s)) 8 s e .1)
+
+  -- one more slice
+  pub named-here : (s : ℕ) → namedBefore frame g (planeIndex frame g s) (suc s) ≡ suc (namedBefore frame g (planeIndex frame g s) s)
+  unfolding lay.namedBefore
+  named-here s = rw (eq-eqb (planeIndex frame g s) (planeIndex frame g s) refl) (omega arith)
+
+  pub named-other : (p s : ℕ) → (p ≡ planeIndex frame g s → ⊥) → namedBefore frame g p (suc s) ≡ namedBefore frame g p s
+  unfolding lay.namedBefore
+  named-other p s ne = rw (ne-eqb (planeIndex frame g s) p (λ z. ne (sym z))) (omega arith)
+
+  module _ (m : ℕ) (all : Done ≡ inOrder m (indexCheck frame g)) where
+    named-most : (s : ℕ) → s ≤ m → (p : ℕ) → namedBefore frame g p s ≤ slicesPerPlane g
+    unfolding lay.namedBefore
+    named-most zero l p = omega arith
+    named-most (suc s) l p = go (ℕ-discrete p (planeIndex frame g s)) (named-most s (omega arith) p)
+      where
+        go : Dec (p ≡ planeIndex frame g s) → namedBefore frame g p s ≤ slicesPerPlane g → namedBefore frame g p (suc s) ≤ slicesPerPlane g
+        go (yes e) h = rw e (omega (arith, named-here s, index-room s (each-passed _ m s all l)))
+        go (no e) h = omega (arith, named-other p s e)
+
+    named-sum : (s : ℕ) → s ≤ m → sumBelow (planeCount g) (λ p. namedBefore frame g p s) ≡ s
+    unfolding lay.namedBefore
+    named-sum zero l = sum-none (planeCount g)
+    named-sum (suc s) l =
+        sum-one-more (λ p. namedBefore frame g p s) (planeIndex frame g s) (planeCount g) (index-below s (each-passed _ m s all l))
+        ∙ omega (arith, named-sum s (omega arith))
+
+  -- each plane gets K slices
+  pub named-all : Done ≡ inOrder (sliceCount g) (indexCheck frame g) → (p : ℕ) → p < planeCount g → namedBefore frame g p (sliceCount g) ≡ slicesPerPlane g
+  named-all all =
+      all-full (λ p. namedBefore frame g p (sliceCount g)) (slicesPerPlane g) (planeCount g)
+      (λ p l. named-most (sliceCount g) all (sliceCount g) (omega arith) p) (named-sum (sliceCount g) all (sliceCount g) (omega arith))
+
+  -- ---- the loop's array
+  pub counted-none : (seen : List ℕ) → length seen ≡ 4 → ((p : ℕ) → getD seen p 0 ≡ 0) → Counted frame g seen 0
+  unfolding lay.namedBefore
+  counted-none seen e h = record { counts = λ p l. h p; four = e }
+
+  pub counted-more : (seen : List ℕ) (s q : ℕ) → q ≡ planeIndex frame g s → q < 4 → Counted frame g seen s → Counted frame g (set seen q (getD seen q 0 + 1)) (s + 1)
+  counted-more seen s q eq l c =
+      record { counts = λ p h. go p h (ℕ-discrete p q); four = simp length-set (c .four) }
+    where
+      go : (p : ℕ) → p < planeCount g → Dec (p ≡ q) → getD (set seen q (getD seen q 0 + 1)) p 0 ≡ namedBefore frame g p (s + 1)
+      go p h (yes e) =
+          let k : q < length seen = omega (arith, c .four) in
+          let hq : q < planeCount g = rw e at h in
+          rw (e, getD-set-same seen q (getD seen q 0 + 1) 0 k, add-one, add-one s, c .counts q hq, eq, named-here s)
+      go p h (no e) =
+          rw (getD-set-other seen q p (getD seen q 0 + 1) 0 e, add-one s, named-other p s (rw eq at e)) (c .counts p h)
+
+zeros : (p : ℕ) → _≡_ {A = ℕ} (getD (0 ∷ 0 ∷ 0 ∷ 0 ∷ []) p 0) 0
+zeros zero = refl
+zeros (suc zero) = refl
+zeros (suc (suc zero)) = refl
+zeros (suc (suc (suc zero))) = refl
+zeros (suc (suc (suc (suc p)))) = refl
+
+module _ (frame : List ℕ) (g : Geometry) where
+  pub counted-start : Counted frame g (0 ∷ 0 ∷ 0 ∷ 0 ∷ []) 0
+  counted-start = counted-none frame g (0 ∷ 0 ∷ 0 ∷ 0 ∷ []) refl zeros
+
+  pub index-is : (s t r : ℕ) → t ≡ sliceCount g → r ≡ getD frame (32 + 4 * (t + 1) + 1 + s) 0 → r ≡ planeIndex frame g s
+  unfolding lay.planeIndex
+  index-is s t r e h = rw e at h
+
+-- the loop of the check: what it has found before slice s
+pub record Walk (frame : List ℕ) (g : Geometry) (planes k t : ℕ) (seen : List ℕ) (s : ℕ) : Type 0 where
+  pub counted : Counted frame g seen s
+  pub passed : Done ≡ inOrder s (indexCheck frame g)
+  pub within : s ≤ t
+  pub few : planes ≤ 4
+  pub long : length seen ≡ 4
+  pub planes-are : planes ≡ planeCount g
+  pub per-plane-is : k ≡ slicesPerPlane g
+  pub slices-are : t ≡ sliceCount g
+
+module _ (frame : List ℕ) (g : Geometry) (planes k t : ℕ) where
+  pub walk-start : planes ≡ planeCount g → k ≡ slicesPerPlane g → t ≡ sliceCount g → Walk frame g planes k t (0 ∷ 0 ∷ 0 ∷ 0 ∷ []) 0
+  walk-start ep ek et =
+      record {
+        counted = counted-start frame g;
+        passed = none-yet (indexCheck frame g);
+        within = omega arith;
+        few = rw ep (planes-most (g .family));
+        long = refl;
+        planes-are = ep;
+        per-plane-is = ek;
+        slices-are = et;
+      }
+
+  module _ (seen : List ℕ) (s : ℕ) (w : Walk frame g planes k t seen s) where
+    pub walk-end : t ≤ s → Done ≡ inOrder (sliceCount g) (indexCheck frame g)
+    walk-end h =
+        let z : s ≡ sliceCount g = omega (arith, w .within, w .slices-are) in
+        rw z at (w .passed)
+
+    module _ (p : ℕ) (ls : s < t) (ei : p ≡ planeIndex frame g s) where
+      pub walk-no-plane : planes ≤ p → Refused 8 (Slice s) ≡ inOrder (sliceCount g) (indexCheck frame g)
+      unfolding frm.indexCheck lay.placeInPlane
+      walk-no-plane h =
+          one-refused (indexCheck frame g) (sliceCount g) s 8 (Slice s) (rw (w .slices-are) at ls) (w .passed)
+          (rw (← ei, ← w .planes-are, le-leb planes p h))
+
+      module _ (lp : p < planes) where
+        so-far : getD seen p 0 ≡ namedBefore frame g (planeIndex frame g s) s
+        so-far = let l : p < planeCount g = rw (w .planes-are) at lp in w .counted .counts p l ∙ ap (λ (y : ℕ). namedBefore frame g y s) ei
+
+        pub walk-all-there : k ≤ getD seen p 0 → Refused 8 (Slice s) ≡ inOrder (sliceCount g) (indexCheck frame g)
+        unfolding frm.indexCheck lay.placeInPlane
+        walk-all-there h =
+            one-refused (indexCheck frame g) (sliceCount g) s 8 (Slice s) (rw (w .slices-are) at ls) (w .passed)
+            (rw (← so-far, ← w .per-plane-is, le-leb k (getD seen p 0) h, ← ei, ← w .planes-are, lt-leb planes p lp))
+
+        pub walk-step : getD seen p 0 < k → Walk frame g planes k t (set seen p (getD seen p 0 + 1)) (s + 1)
+        unfolding frm.indexCheck lay.placeInPlane
+        walk-step h =
+            record {
+              counted = counted-more frame g seen s p ei (omega (arith, w .few)) (w .counted);
+              passed = one-passed (indexCheck frame g) s (w .passed) (rw (← so-far, ← w .per-plane-is, lt-leb k (getD seen p 0) h, ← ei, ← w .planes-are, lt-leb planes p lp));
+              within = omega arith;
+              few = w .few;
+              long = simp length-set (w .long);
+              planes-are = w .planes-are;
+              per-plane-is = w .per-plane-is;
+              slices-are = w .slices-are;
+            }
+
+pub ruleset walks = (walk-start, walk-end, walk-no-plane, walk-all-there, walk-step, needs)

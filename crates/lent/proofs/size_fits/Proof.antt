@@ -1,0 +1,12 @@
+use Rattle.lent.proofs.Refused.{tests}
+use Rattle.lent.proofs.size_fits.Statement.{statement}
+use Rattle.lent.proofs.size_fits.Tie as tie
+
+returns : tie.Need-returns
+returns c = search tests
+
+returns-2 : tie.Need-returns-2
+returns-2 c = search tests
+
+pub size-fits-spec : {M : Type 1} → statement M
+size-fits-spec = tie.close (tie.spec returns returns-2)

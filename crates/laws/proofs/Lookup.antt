@@ -21,7 +21,7 @@ use Rattle.scope.specs.Lookup.{packed, unpacked, beginsIn, wordIn, firstPart, s
 use Rattle.scope.specs.declared.Found.{Found}
 use Rattle.scope.specs.declared.Found.the-variants.{Word, NoWord}
 use Rattle.laws.proofs.Counts.{which, at-most-longest}
-use Rattle.laws.proofs.Windows.{window-small, window-head}
+use Rattle.bits.proofs.Windows.{window-small, window-head}
 use Rattle.laws.proofs.Words.{begins-of-test, FoundIn, found-in}
 use Rattle.laws.proofs.Heads.{head-yes, no-head, no-head-short, heads-first}
 use Rattle.laws.proofs.Table.{need-short, need-long, table-length, table-short, table-first, table-second}

@@ -20,7 +20,7 @@ use Rattle.scope.specs.declared.Found.{Found}
 use Rattle.scope.specs.declared.Found.the-variants.{Word, NoWord}
 use Rattle.laws.specs.Tiers.{end}
 use Rattle.laws.proofs.Counts.{which, count-at, count-apart, at-rank, Ranked, at-most-longest}
-use Rattle.laws.proofs.Windows.{window-prefix}
+use Rattle.bits.proofs.Windows.{window-prefix}
 
 -- ---- the words of one length, and those of the lengths above it
 

@@ -1,5 +1,5 @@
 -- `write_table` leaves the table in exactly the words that it needs (document 01, "Words and lookup").
-use mathlib.Core.Path.{_≡_, _∙_}
+use mathlib.Core.Path.{_∙_}
 use native.Mathlib.Omega.{arith}
 use borrow.Author.Needs.{needs}
 use lib.ListN.{length}

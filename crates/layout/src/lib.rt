@@ -123,11 +123,12 @@ pub fn check_order(frame: &[u8], g: Geometry) -> Answer
     let mut s = 0;
     while s < t {
         let p = plane_index(frame, g, t, s);
+        let here = Place::Slice(s);
         if planes <= p {
-            return Answer::Refused(8, Place::Slice(s));
+            return Answer::Refused(8, here);
         }
         if k <= seen[p] {
-            return Answer::Refused(8, Place::Slice(s));
+            return Answer::Refused(8, here);
         }
         seen[p] = seen[p] + 1;
         s += 1;

@@ -1,0 +1,3 @@
+pub mod Needs
+pub mod Framed
+pub mod Once

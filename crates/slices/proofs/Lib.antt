@@ -1,0 +1,4 @@
+pub mod Shortness
+pub mod Parts
+pub mod Sliced
+pub mod Once

@@ -1,17 +1,17 @@
 -- What a table built by itself answers and leaves, case by case (document 01, "Words and lookup"). Assumes nothing.
-use mathlib.Core.Path.{_≡_, refl, sym, ap, ap₂, _∙_, subst}
+use mathlib.Core.Path.{_≡_, refl, sym, ap, _∙_, subst}
 use mathlib.Core.Logic.{inl, inr}
 use Prim.Native.Nat.{ℕ, _-_, _≤_, _<_}
 use native.Mathlib.Nat.{sub-zero}
 use native.Mathlib.Omega.{arith}
 use mathlib.Core.List.{List, _++_}
-use mathlib.Core.Bool.{Bool, true, false, cond}
+use mathlib.Core.Bool.{true, false}
 use lib.Dec.{ltb}
 use lib.ListN.{length, drop}
 use borrow.Author.Needs.{needs}
 use borrow.Author.Tests.{lt-ltb, le-ltb, le-leb, ltb-false}
 use Rattle.scope.specs.Base.{replaced}
-use Rattle.scope.specs.Refusals.{refuseIf, _andThen_, leftBy}
+use Rattle.scope.specs.Refusals.{leftBy}
 use Rattle.scope.specs.Words.{longest, shares, need, tooLong, overfull}
 use Rattle.scope.specs.Lookup.{tableOf}
 use Rattle.scope.specs.Alone.{buildAnswer, workspaceBuilt, BuiltAlone}

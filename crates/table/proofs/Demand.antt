@@ -1,16 +1,15 @@
 -- Demand 3, of every list of lengths. Assumes nothing.
 use mathlib.Core.Path.{_≡_, refl, sym, ap, _∙_}
-use mathlib.Core.Logic.{_↔_}
-use Prim.Native.Nat.{ℕ, _≤_, _<_}
+use Prim.Native.Nat.{ℕ, _≤_}
 use native.Mathlib.Omega.{arith}
 use mathlib.Core.List.{List}
 use lib.ListN.{length}
 use borrow.Author.Tests.{le-ltb}
 use Rattle.scope.specs.Base.{zeros}
-use Rattle.scope.specs.Refusals.{refuseIf, _andThen_, leftBy}
+use Rattle.scope.specs.Refusals.{leftBy}
 use Rattle.scope.specs.Words.{longest, shares, need, Chain, symbols, stuckAt, chain}
 use Rattle.scope.specs.Frame.{readable, symbolsOf}
-use Rattle.scope.specs.Alone.{buildAnswer, readAnswer, samplesRead, workspaceRead}
+use Rattle.scope.specs.Alone.{readAnswer, samplesRead, workspaceRead}
 use Rattle.scope.specs.declared.Place.the-variants.{Plane}
 use Rattle.scope.specs.declared.Answer.{Answer}
 use Rattle.scope.specs.declared.Answer.the-variants.{Done, Refused}
@@ -20,6 +19,7 @@ use Rattle.laws.proofs.Kraft.{word-fits}
 use Rattle.laws.proofs.Chains.{chain-exactly, one-chain}
 use Rattle.table.specs.Demand.{Lengths, ChainOf, ReadsChain, Demand3}
 use Rattle.table.proofs.Building.{answer-done, good}
+use Rattle.table.proofs.Reading.{cleared}
 
 -- ---- a reading, by what the chain is
 
@@ -66,14 +66,9 @@ module _ (ls payload samples workspace : List ℕ) (few : length ls ≤ 16384) (
   none (symbols ss) e h = absurd (h ss (chain-is ss e))
   none (stuckAt p) e h = stuck p e
 
-  cleared : (c : Chain) → leftBy 11 (readable 0 c) workspace (zeros workspace) ≡ zeros workspace
-  unfolding leftBy readable
-  cleared (symbols ss) = refl
-  cleared (stuckAt p) = refl
-
   clears : workspaceRead ls payload (length samples) workspace ≡ zeros workspace
   unfolding workspaceRead
-  clears = ap (λ (r : Answer). leftBy 11 r workspace (zeros workspace)) answer-is ∙ cleared the-chain
+  clears = ap (λ (r : Answer). leftBy 11 r workspace (zeros workspace)) answer-is ∙ cleared workspace the-chain
 
   pub reads-chain : ReadsChain ls payload samples workspace
   reads-chain = record {

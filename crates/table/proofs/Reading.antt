@@ -1,16 +1,16 @@
 -- What a reading by itself answers and leaves, case by case (document 01, "Words and lookup"). Assumes nothing.
-use mathlib.Core.Path.{_≡_, refl, sym, ap, ap₂, _∙_, subst, subst⁻¹}
-use Prim.Native.Nat.{ℕ, _+_, _*_, _^_, _≤_, _<_}
+use mathlib.Core.Path.{_≡_, refl, sym, ap, _∙_, subst, subst⁻¹}
+use Prim.Native.Nat.{ℕ, _+_, _^_, _≤_, _<_}
 use native.Mathlib.Omega.{arith}
 use mathlib.Core.List.{List, _++_}
-use mathlib.Core.Bool.{Bool, true, false, cond}
-use lib.Dec.{ltb, leb}
+use mathlib.Core.Bool.{true}
+use lib.Dec.{leb}
 use lib.ListN.{length, take, drop, replicate}
 use lib.Seq.{take-at}
 use borrow.Author.Tests.{lt-ltb, le-ltb, le-leb}
 use borrow.Author.Needs.{needs}
 use Rattle.scope.specs.Base.{zeros}
-use Rattle.scope.specs.Refusals.{refuseIf, _andThen_, leftBy}
+use Rattle.scope.specs.Refusals.{_andThen_, leftBy}
 use Rattle.scope.specs.Words.{longest, need, wordAt, Chain, symbols, stuckAt, chainBy, chain}
 use Rattle.scope.specs.Lookup.{tableOf, lookupIn}
 use Rattle.scope.specs.Frame.{readable, symbolsOf}
@@ -65,6 +65,12 @@ module _ (ls payload workspace samples : List ℕ) (b : Built ls workspace (leng
         record { answer = rw c refl; samples = rw c (g ∙ ap (λ (n : ℕ). replicate n 0) l); workspace = z }
 
 -- ---- from the start
+
+-- a reading leaves the workspace wholly zero, whatever the chain is
+pub cleared : (workspace : List ℕ) (c : Chain) → leftBy 11 (readable 0 c) workspace (zeros workspace) ≡ zeros workspace
+unfolding leftBy readable
+cleared workspace (symbols ss) = refl
+cleared workspace (stuckAt p) = refl
 
 module _ (ls payload workspace samples : List ℕ) where
   -- too many samples
@@ -125,14 +131,10 @@ module _ (ls payload workspace samples : List ℕ) where
         read-built r workspace₂ samples₂ l a = record {
           answer = a .answer ∙ sym e;
           samples = a .samples ∙ unfold samplesRead in (rw e refl);
-          workspace = a .workspace ∙ ap (λ (n : ℕ). replicate n 0) l ∙ unfold workspaceRead in (sym (ap (λ (x : Answer). leftBy 11 x workspace (zeros workspace)) e ∙ cleared (chain ls payload 0 (length samples))));
+          workspace = a .workspace ∙ ap (λ (n : ℕ). replicate n 0) l ∙ unfold workspaceRead in (sym (ap (λ (x : Answer). leftBy 11 x workspace (zeros workspace)) e ∙ cleared workspace (chain ls payload 0 (length samples))));
         }
           where
             e : readAnswer ls payload (length samples) (length workspace) ≡ readable 0 (chain ls payload 0 (length samples))
             e = after Done is-done
-
-            cleared : (c : Chain) → leftBy 11 (readable 0 c) workspace (zeros workspace) ≡ zeros workspace
-            cleared (symbols ss) = unfold leftBy readable in refl
-            cleared (stuckAt p) = unfold leftBy readable in refl
 
 pub ruleset readings = (words-asked, read-end, read-stuck, read-4, read-refused, built, read-built, needs)

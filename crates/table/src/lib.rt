@@ -34,7 +34,12 @@ pub fn build(lengths: &[u8], workspace: &mut [u32]) -> Answer
 }
 
 // Reads the samples by a table that is built, and clears the workspace; the samples too where a word fails.
-pub(crate) fn read_built(lengths: &[u8], payload: &[u8], workspace: &mut [u32], samples: &mut [u16]) -> Answer
+pub(crate) fn read_built(
+    lengths: &[u8],
+    payload: &[u8],
+    workspace: &mut [u32],
+    samples: &mut [u16],
+) -> Answer
     requires { ⌜ Built (now lengths) (now workspace) (length (now samples)) ⌝ }
     ensures { λ r. ⌜ BuiltRead (now (lengths .entry)) (now (payload .entry)) (now (workspace .entry)) (now (samples .entry)) r (now (workspace .exit)) (now (samples .exit)) ⌝ }
 {

@@ -1,8 +1,8 @@
 -- The loop that places the symbols' words, one pass over the lengths (document 01, "Words and lookup": "given to symbols in ascending
 -- order"). Assumes nothing.
-use mathlib.Core.Path.{_≡_, refl, sym, ap, ap₂, _∙_, subst, subst⁻¹, subst₂}
-use Prim.Native.Nat.{ℕ, zero, suc, _+_, _-_, _*_, _/_, _%_, _^_, _≤_, _<_, min}
-use native.Mathlib.Nat.{zero-add, mul-le-mul-left, mul-one}
+use mathlib.Core.Path.{_≡_, sym, ap, ap₂, _∙_, subst, subst₂}
+use Prim.Native.Nat.{ℕ, suc, _+_, _-_, _*_, _/_, _%_, _^_, _≤_, _<_, min}
+use native.Mathlib.Nat.{zero-add, mul-le-mul-left}
 use native.Mathlib.Numerals.{add-one}
 use native.Mathlib.Decide.{ℕ-discrete, decLe, decLt}
 use native.Mathlib.Omega.{arith}
@@ -21,7 +21,7 @@ use Rattle.words.specs.Weigh.{firstsOf}
 use Rattle.words.proofs.Walking.{firsts-at, firsts-length}
 use Rattle.builder.specs.Slots.{slotBits, slotBase, Filled, Row, Ready, Slotted}
 use Rattle.builder.proofs.Filling.{bits-first, base-first, bits-second, base-second}
-use Rattle.builder.proofs.Rows.{row-of, of-row, first-room, second-room, short-row, long-row, row, apart}
+use Rattle.builder.proofs.Rows.{row-of, of-row, first-room, second-room, short-row, row, apart}
 
 -- ---- what `put` computes
 

@@ -1,23 +1,23 @@
 -- The first twelve bits of the words longer than 12 are the numbers 0 to first(12) − 1, and so S = first(12): where the
 -- sub-tables stand, and how many there are (document 01, "Words and lookup", a plane's need). Assumes nothing.
 use mathlib.Core.Path.{_≡_, refl, sym, ap, _∙_, subst}
-use mathlib.Core.Logic.{_⊎_, inl, inr, _↔_}
+use mathlib.Core.Logic.{_⊎_, inl, inr}
 use Prim.Native.Nat.{ℕ, zero, suc, _+_, _-_, _*_, _/_, _^_, _≤_, _<_, min}
 use native.Mathlib.Nat.{add-suc, suc-add, pow-suc, div-div-eq-div-mul, not-suc-le-zero, le-refl, le-trans, mul-div-cancel, not-le-of-lt, mul-le-mul}
 use native.Mathlib.Numerals.{add-one}
 use native.Mathlib.Omega.{arith}
 use native.Mathlib.Decide.{decLe}
 use mathlib.Core.List.{List}
-use mathlib.Core.Bool.{Bool, true, false, cond, _&&_, _||_, true≢false}
+use mathlib.Core.Bool.{Bool, true, false, cond, _||_, true≢false}
 use lib.ListN.{length}
 use lib.Dec.{eqb, ltb, leb}
 use lib.Pow.{pow-mono, pow-pos}
-use borrow.Author.Tests.{eq-eqb, ne-eqb, lt-ltb, le-ltb, le-leb, lt-leb, ltb-true, eqb-true, leb-true}
+use borrow.Author.Tests.{eq-eqb, lt-ltb, le-ltb, le-leb, ltb-true, eqb-true, leb-true}
 use Rattle.scope.specs.Base.{halfUp, one, count, sumBelow}
 use Rattle.scope.specs.Words.{longest, startDown, first, wordOf, lengthOf, shares, isHead, headBelow, heads, need, needFrom}
 use Rattle.laws.specs.Tiers.{end}
-use Rattle.laws.proofs.Counts.{which, at-most-longest}
-use Rattle.laws.proofs.Words.{both, Has, has, before-shorter, first-le-word, word-lt-end}
+use Rattle.laws.proofs.Counts.{which, one-le, at-most-longest}
+use Rattle.laws.proofs.Words.{both, Has, has, before-shorter, word-lt-end}
 use Rattle.laws.proofs.Kraft.{end-fits}
 
 -- ---- a number before the first word of a length begins some longer word
@@ -196,10 +196,6 @@ need-first ls k f s h = go (decLe (longest ls) 12)
 -- no second part has more than 2^18 slots
 pub second-small : (m s : ℕ) → m ≤ 18 → s ≤ 4096 → s * 2 ^ (m - 12) ≤ 262144
 second-small m s k f = mul-le-mul f (pow-mono {i = m - 12} {j = 6} (omega arith))
-
-one-le : (b : Bool) → one b ≤ 1
-one-le true = omega arith
-one-le false = omega arith
 
 sum-le : (f : ℕ → Bool) (n : ℕ) → sumBelow n (λ x. one (f x)) ≤ n
 unfolding sumBelow

@@ -2,18 +2,18 @@
 -- (document 01, "Words and lookup", refusal 10). Over the length, and over any number of lengths. Assumes nothing.
 use mathlib.Core.Path.{_≡_, refl, sym, ap, _∙_}
 use mathlib.Core.Logic.{_↔_}
-use Prim.Native.Nat.{ℕ, zero, suc, _+_, _-_, _*_, _/_, _^_, _≤_, _<_}
+use Prim.Native.Nat.{ℕ, zero, suc, _+_, _-_, _*_, _^_, _≤_, _<_}
 use native.Mathlib.Nat.{add-mul, mul-assoc, pow-succ', mul-le-mul-right, not-suc-le-zero, le-of-eq, lt-of-mul-lt-mul-right, le-of-suc-le-suc, not-le-of-lt, lt-of-lt-of-le}
 use native.Mathlib.Numerals.{add-one}
 use native.Mathlib.Omega.{arith}
 use native.Mathlib.Decide.{decLe}
 use mathlib.Core.List.{List, [], _∷_}
-use mathlib.Core.Bool.{Bool, true, false, cond}
+use mathlib.Core.Bool.{true, false, cond}
 use lib.ListN.{length}
-use lib.Dec.{eqb, ltb}
+use lib.Dec.{ltb}
 use lib.Pow.{pow-pos, pow-add}
 use borrow.Author.Tests.{eq-eqb, ne-eqb, lt-ltb, le-ltb, ltb-false}
-use Rattle.scope.specs.Base.{halfUp, one, count}
+use Rattle.scope.specs.Base.{halfUp, count}
 use Rattle.scope.specs.Words.{longest, lengthOf, wordOf, share, shares, startDown, first, overfull}
 use Rattle.laws.specs.Tiers.{end}
 use Rattle.laws.proofs.Counts.{at-most-longest}

@@ -1,22 +1,19 @@
 -- The table, slot by slot (document 01, "Words and lookup": "the statement fixes the words within it"): as long as the need, a
 -- first part whose slots have the first twelve bits of the longest length, and a second part whose slots have all of it.
 -- Assumes nothing.
-use mathlib.Core.Path.{_≡_, refl, sym, ap, ap₂, _∙_, subst}
-use mathlib.Core.Logic.{inl, inr}
-use Prim.Native.Nat.{ℕ, zero, suc, _+_, _-_, _*_, _/_, _^_, _≤_, _<_, min}
-use native.Mathlib.Nat.{le-refl, le-trans, le-of-eq}
+use mathlib.Core.Path.{_≡_, refl, sym, ap, ap₂, _∙_}
+use Prim.Native.Nat.{ℕ, zero, suc, _+_, _-_, _*_, _/_, _^_, _≤_, _<_}
 use native.Mathlib.Decide.{ℕ-discrete, decLe, decLt}
 use native.Mathlib.Omega.{arith}
-use mathlib.Core.List.{List, [], _∷_, _++_}
-use mathlib.Core.Bool.{Bool, true, false, cond, _&&_}
+use mathlib.Core.List.{List, _++_}
+use mathlib.Core.Bool.{cond, _&&_}
 use lib.Dec.{eqb, ltb, leb}
 use lib.ListN.{length, getD, length-append, List·getD-append}
-use lib.Seq.{getD-append-add, ext-getD}
+use lib.Seq.{getD-append-add}
 use borrow.Author.Tests.{eq-eqb, ne-eqb, lt-ltb, le-ltb, le-leb, lt-leb}
 use Rattle.scope.specs.Base.{listFrom, listBelow}
-use Rattle.scope.specs.Words.{longest, lengthOf, wordOf, headBelow, heads, need, needFrom}
+use Rattle.scope.specs.Words.{longest, lengthOf, wordOf, heads, need, needFrom}
 use Rattle.scope.specs.Lookup.{packed, beginsIn, wordIn, firstPart, slots, tableOf}
-use Rattle.scope.specs.declared.Found.{Found}
 use Rattle.scope.specs.declared.Found.the-variants.{Word, NoWord}
 use Rattle.laws.proofs.Counts.{at-most-longest}
 use Rattle.laws.proofs.Lists.{length-listFrom, getD-below}

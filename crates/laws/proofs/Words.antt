@@ -2,21 +2,20 @@
 -- position begin with one word at most. None of them asks anything of the shares. p is a bit position, s and t are symbols.
 -- Assumes nothing.
 use mathlib.Core.Path.{_≡_, refl, sym, ap, _∙_, subst, subst⁻¹}
-use mathlib.Core.Logic.{_⊎_, inl, inr}
-use Prim.Native.Nat.{ℕ, zero, suc, _+_, _-_, _*_, _/_, _^_, _≤_, _<_}
+use mathlib.Core.Logic.{inl, inr}
+use Prim.Native.Nat.{ℕ, zero, suc, _+_, _-_, _/_, _^_, _≤_, _<_}
 use native.Mathlib.Nat.{add-suc, pow-suc, div-div-eq-div-mul, div-one, not-suc-le-zero, le-refl, add-sub-of-le}
 use native.Mathlib.Numerals.{add-one}
 use native.Mathlib.Decide.{decLe}
 use native.Mathlib.Omega.{arith}
-use mathlib.Core.List.{List, [], _∷_}
-use mathlib.Core.Bool.{Bool, true, false, cond, _&&_, true≢false}
+use mathlib.Core.List.{List}
+use mathlib.Core.Bool.{Bool, true, false, _&&_, true≢false}
 use lib.Dec.{eqb, ltb}
-use lib.ListN.{length, take, getD}
+use lib.ListN.{length, take}
 use borrow.Author.Tests.{eq-eqb, lt-ltb, ltb-true, eqb-true}
-use Rattle.scope.specs.Base.{halfUp, count}
+use Rattle.scope.specs.Base.{count}
 use Rattle.scope.specs.Bits.{window}
 use Rattle.scope.specs.Words.{longest, startDown, first, wordOf, lengthOf, beginsWith, wordBelow, wordAt, Begins}
-use Rattle.scope.specs.declared.Found.{Found}
 use Rattle.scope.specs.declared.Found.the-variants.{Word, NoWord}
 use Rattle.laws.specs.Tiers.{end}
 use Rattle.laws.proofs.Counts.{which, count-at, count-apart, at-rank, Ranked, at-most-longest}

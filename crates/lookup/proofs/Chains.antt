@@ -1,10 +1,10 @@
 -- What a reading says of the chain, and of a code's own words where its table is read; and how a reading goes on from where another one
 -- ended (document 01, "Words and lookup"). Assumes nothing.
-use mathlib.Core.Path.{_≡_, refl, sym, ap, ap₂, _∙_, subst⁻¹}
+use mathlib.Core.Path.{_≡_, refl, sym, ap, _∙_}
 use Prim.Native.Nat.{ℕ, zero, suc, _+_, _*_, _^_, _≤_, _<_}
 use native.Mathlib.Nat.{zero-add, suc-add}
 use native.Mathlib.Omega.{arith}
-use mathlib.Core.List.{List, [], _∷_, _++_}
+use mathlib.Core.List.{List, []}
 use lib.ListN.{length}
 use Rattle.scope.specs.Words.{longest, wordAt, Chain, symbols, stuckAt, _before_, onWord, chainBy, chain}
 use Rattle.scope.specs.Lookup.{lookupIn}
@@ -13,7 +13,6 @@ use Rattle.scope.specs.declared.Found.the-variants.{Word, NoWord}
 use Rattle.laws.proofs.Words.{FoundIn, found-in}
 use Rattle.laws.proofs.Chains.{chain-same}
 use Rattle.lookup.specs.Reading.{onward, positionAfter, reached, WordsRead, Readable}
-use Rattle.lookup.specs.declared.Reached.{Reached}
 use Rattle.lookup.specs.declared.Reached.the-variants.{End, Stuck}
 use Rattle.lookup.proofs.Reading.{then}
 

@@ -1,5 +1,5 @@
 -- The lookup case by case, as the code takes its ways (document 01, "Words and lookup"). Assumes nothing.
-use mathlib.Core.Path.{_≡_, refl, sym, ap, _∙_}
+use mathlib.Core.Path.{_≡_, sym, ap, _∙_}
 use Prim.Native.Nat.{ℕ, _+_, _/_, _%_, _≤_, _<_}
 use mathlib.Core.List.{List}
 use lib.ListN.{length, getD, List·getD-eq-default}

@@ -1,7 +1,7 @@
 -- Any two outcomes that a public function's statement allows are equal. `Post` is the plain reading that Rattle itself makes of the
 -- `ensures` clauses of src/, so these theorems are about the contracts and about nothing that restates them. The one exception: what a
 -- reading that is stuck leaves in `out` is not said; its callers clear it. Assumes nothing.
-use mathlib.Core.Path.{_≡_, sym, ap, _∙_, subst}
+use mathlib.Core.Path.{_≡_, sym, _∙_, subst}
 use Prim.Native.Nat.{ℕ}
 use mathlib.Core.List.{List}
 use contract.Lifetimes.{Lfts}

@@ -1,7 +1,7 @@
 -- The loop that reads words one after the other, for every element: what is read so far, and what the rest of the chain adds to it, is
 -- the chain (document 01, "Words and lookup": "takes every sample from that lookup"). Assumes nothing.
-use mathlib.Core.Path.{_≡_, refl, sym, ap, ap₂, _∙_}
-use Prim.Native.Nat.{ℕ, zero, suc, _+_, _-_, _*_, _^_, _≤_, _<_}
+use mathlib.Core.Path.{_≡_, refl, sym, ap, _∙_}
+use Prim.Native.Nat.{ℕ, suc, _+_, _-_, _*_, _^_, _≤_, _<_}
 use native.Mathlib.Nat.{sub-zero}
 use native.Mathlib.Numerals.{add-one}
 use native.Mathlib.Omega.{arith}
@@ -14,8 +14,8 @@ use borrow.Author.Needs.{needs}
 use Rattle.scope.specs.Words.{Chain, symbols, stuckAt, _before_, onWord, chainBy}
 use Rattle.scope.specs.declared.Found.{Found}
 use Rattle.scope.specs.declared.Found.the-variants.{Word, NoWord}
+use Rattle.laws.proofs.Chains.{no-symbols}
 use Rattle.lookup.specs.Reading.{onward, positionAfter, reached, WordsRead, Readable}
-use Rattle.lookup.specs.declared.Reached.{Reached}
 use Rattle.lookup.specs.declared.Reached.the-variants.{End, Stuck}
 
 -- the symbols read so far, and then the rest of the chain
@@ -105,13 +105,8 @@ module _ (look : ℕ → Found) (limit at n : ℕ) (out : List ℕ) (p k : ℕ) 
     unfolding reached
     reads-stuck f out′ = record {
       answer = ap (λ (c : Chain). reached c (positionAfter look at n)) (sym (none f));
-      handed = λ ss g. absurd (unlike ss (sym (none f) ∙ g));
+      handed = λ ss g. absurd (no-symbols p ss (sym (none f) ∙ g));
     }
-      where
-        unlike : (ss : List ℕ) → stuckAt p ≡ symbols ss → ⊥
-        unlike ss g =
-            let z : _≡_ {A = ℕ} 0 1 = cc in
-            omega arith
 
   -- all words
   whole : length out ≤ k → chainBy look at n ≡ symbols out

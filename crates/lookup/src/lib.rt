@@ -84,19 +84,19 @@ pub fn words_u8(table: &[u32], m: usize, payload: &[u8], at: usize, out: &mut [u
     requires { ⌜ Readable (lookupIn (now table) m (now payload)) (2 ^ 8) at (length (now out)) ⌝ }
     ensures { λ r. ⌜ WordsRead (lookupIn (now (table .entry)) m (now (payload .entry))) at (length (now (out .entry))) r (now (out .exit)) ⌝ }
 {
-    let mut p = at;
-    let mut k: usize = 0;
-    while k < out.len() {
-        match lookup(table, m, payload, p) {
+    let mut q = at;
+    let mut j: usize = 0;
+    while j < out.len() {
+        match lookup(table, m, payload, q) {
             Found::NoWord => {
-                return Reached::Stuck(p);
+                return Reached::Stuck(q);
             }
             Found::Word { length, symbol } => {
-                out[k] = symbol as u8;
-                p = p + length;
-                k += 1;
+                out[j] = symbol as u8;
+                q = q + length;
+                j += 1;
             }
         }
     }
-    Reached::End(p)
+    Reached::End(q)
 }

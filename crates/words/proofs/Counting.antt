@@ -1,7 +1,7 @@
 -- The loops over the lengths (document 01, "Words and lookup"): the longest of them, and how many symbols have each.
 -- Assumes nothing.
 use mathlib.Core.Path.{_≡_, refl, sym, ap, _∙_}
-use Prim.Native.Nat.{ℕ, zero, suc, _+_, _-_, _≤_, _<_, max}
+use Prim.Native.Nat.{ℕ, _+_, _-_, _≤_, _<_, max}
 use native.Mathlib.Numerals.{add-one}
 use native.Mathlib.Decide.{ℕ-discrete}
 use native.Mathlib.Omega.{arith}
@@ -11,7 +11,7 @@ use lib.ListN.{length, take, getD, set, length-set, replicate, getD-replicate}
 use lib.Seq.{getD-set-same, getD-set-other, take-all, length-take-le}
 use Rattle.scope.specs.Base.{one, count, listBelow}
 use Rattle.scope.specs.Words.{longest}
-use Rattle.laws.proofs.Counts.{longest-next, at-most-longest, count-next, count-le, one-same, one-other}
+use Rattle.laws.proofs.Counts.{longest-next, count-next, count-le, one-same, one-other}
 use Rattle.laws.proofs.Lists.{listBelow-only, getD-below}
 
 -- the longest so far

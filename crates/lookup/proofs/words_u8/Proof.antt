@@ -7,10 +7,10 @@ use Rattle.lookup.proofs.words_u8.Statement.{statement}
 use Rattle.lookup.proofs.words_u8.Tie as tie
 
 abbrev Inv-loop : tie.InvT-loop
-Inv-loop table m payload at out₀ p₀ k₀ out p k = Reads (lookupIn table m payload) (2 ^ 8) at (length out₀) out p k
+Inv-loop table m payload at out₀ q₀ j₀ out q j = Reads (lookupIn table m payload) (2 ^ 8) at (length out₀) out q j
 
 abbrev μ-loop : tie.MeasureT-loop
-μ-loop table m payload at out₀ p₀ k₀ out p k = length out₀ - k
+μ-loop table m payload at out₀ q₀ j₀ out q j = length out₀ - j
 
 loop-holds : tie.Need-loop-holds Inv-loop μ-loop
 loop-holds c = search reading
@@ -36,11 +36,11 @@ cast-out c = search reading
 slice-write-out : tie.Need-slice-write-out Inv-loop μ-loop
 slice-write-out c = search reading
 
-add-p : tie.Need-add-p Inv-loop μ-loop
-add-p c = search reading
+add-q : tie.Need-add-q Inv-loop μ-loop
+add-q c = search reading
 
-add-k : tie.Need-add-k Inv-loop μ-loop
-add-k c = search reading
+add-j : tie.Need-add-j Inv-loop μ-loop
+add-j c = search reading
 
 loop-less : tie.Need-loop-less Inv-loop μ-loop
 loop-less c = search reading
@@ -68,8 +68,8 @@ words-u8-spec =
     enum-known-length
     cast-out
     slice-write-out
-    add-p
-    add-k
+    add-q
+    add-j
     loop-less
     loop-again
     same-length-2

@@ -24,28 +24,23 @@ fn max_u16(a: u16, b: u16) -> u16
     b
 }
 
-// A residue and the gradient, with one remainder for both sums and left added last.
+// A residue and the gradient, with one remainder for all of it; 2^depth divides the 2^16 at which the sums wrap.
 fn gradient_sum_u16(residue: u16, left: u16, top: u16, topleft: u16, depth: usize) -> u16
     requires { ⌜ (topleft < 2 ^ depth) × (depth ≤ 16) ⌝ }
     ensures { λ r. ⌜ r ≡ (residue + gradient depth left top topleft) % 2 ^ depth ⌝ }
 {
-    let m = memory::modulus(depth);
-    ((residue as u32 + top as u32 + (m - topleft as u32) + left as u32) % m) as u16
+    let known = std::num::wrapping_sub_u16(std::num::wrapping_add_u16(residue, top), topleft);
+    memory::sum_u16(known, left, depth)
 }
 
-// The median of T.87.
+// The median of T.87: left + top less top-left, where top-left is first brought between the smaller and the larger of left and
+// top. So a top-left of at least the larger gives the smaller, one of at most the smaller gives the larger, with no branch.
 fn t87_median_u16(left: u16, top: u16, topleft: u16) -> u16
     ensures { λ r. ⌜ r ≡ t87Median left top topleft ⌝ }
 {
     let lo = min_u16(left, top);
     let hi = max_u16(left, top);
-    if hi <= topleft {
-        return lo;
-    }
-    if topleft <= lo {
-        return hi;
-    }
-    lo + (hi - topleft)
+    hi - (max_u16(lo, min_u16(topleft, hi)) - lo)
 }
 
 // Adds the left sample across.

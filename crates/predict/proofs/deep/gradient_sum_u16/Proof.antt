@@ -3,26 +3,14 @@ use Rattle.predict.proofs.Formulas.{formulas}
 use Rattle.predict.proofs.deep.gradient_sum_u16.Statement.{statement}
 use Rattle.predict.proofs.deep.gradient_sum_u16.Tie as tie
 
-modulus-requires : tie.Need-modulus-requires
-modulus-requires c κs = search formulas
+wrapping-add-u16-requires : tie.Need-wrapping-add-u16-requires
+wrapping-add-u16-requires c κs = search formulas
 
-add-result : tie.Need-add-result
-add-result c = search formulas
+wrapping-sub-u16-requires : tie.Need-wrapping-sub-u16-requires
+wrapping-sub-u16-requires c κs = search formulas
 
-sub-result : tie.Need-sub-result
-sub-result c = search formulas
-
-add-result-2 : tie.Need-add-result-2
-add-result-2 c = search formulas
-
-add-result-3 : tie.Need-add-result-3
-add-result-3 c = search formulas
-
-rem-result : tie.Need-rem-result
-rem-result c = search formulas
-
-cast-result : tie.Need-cast-result
-cast-result c = search formulas
+sum-u16-requires : tie.Need-sum-u16-requires
+sum-u16-requires c κs = search formulas
 
 returns : tie.Need-returns
 returns c = search formulas
@@ -30,12 +18,4 @@ returns c = search formulas
 pub gradient-sum-u16-spec : {M : Type 1} → statement M
 gradient-sum-u16-spec =
     tie.close
-    (tie.spec
-    modulus-requires
-    add-result
-    sub-result
-    add-result-2
-    add-result-3
-    rem-result
-    cast-result
-    returns)
+    (tie.spec wrapping-add-u16-requires wrapping-sub-u16-requires sum-u16-requires returns)

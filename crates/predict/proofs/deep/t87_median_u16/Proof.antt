@@ -9,22 +9,29 @@ min-u16-requires c κs = search formulas
 max-u16-requires : tie.Need-max-u16-requires
 max-u16-requires c κs = search formulas
 
-returns : tie.Need-returns
-returns c = search formulas
+min-u16-requires-2 : tie.Need-min-u16-requires-2
+min-u16-requires-2 c κs = search formulas
 
-returns-2 : tie.Need-returns-2
-returns-2 c = search formulas
+max-u16-requires-2 : tie.Need-max-u16-requires-2
+max-u16-requires-2 c κs = search formulas
 
 sub-result : tie.Need-sub-result
 sub-result c = search formulas
 
-add-result : tie.Need-add-result
-add-result c = search formulas
+sub-result-2 : tie.Need-sub-result-2
+sub-result-2 c = search formulas
 
-returns-3 : tie.Need-returns-3
-returns-3 c = search formulas
+returns : tie.Need-returns
+returns c = search formulas
 
 pub t87-median-u16-spec : {M : Type 1} → statement M
 t87-median-u16-spec =
     tie.close
-    (tie.spec min-u16-requires max-u16-requires returns returns-2 sub-result add-result returns-3)
+    (tie.spec
+    min-u16-requires
+    max-u16-requires
+    min-u16-requires-2
+    max-u16-requires-2
+    sub-result
+    sub-result-2
+    returns)

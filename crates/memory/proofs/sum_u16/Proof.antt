@@ -3,27 +3,21 @@ use Rattle.memory.proofs.Powers.{powers}
 use Rattle.memory.proofs.sum_u16.Statement.{statement}
 use Rattle.memory.proofs.sum_u16.Tie as tie
 
--- src/lib.rt:70:9
 wrapping-add-u16-requires : tie.Need-wrapping-add-u16-requires
 wrapping-add-u16-requires c κs = search powers
 
--- src/lib.rt:71:6
 cast-result : tie.Need-cast-result
 cast-result c = search powers
 
--- src/lib.rt:71:19
 modulus-requires : tie.Need-modulus-requires
 modulus-requires c κs = search powers
 
--- src/lib.rt:71:6
 rem-result : tie.Need-rem-result
 rem-result c = search powers
 
--- src/lib.rt:71:5
 cast-result-2 : tie.Need-cast-result-2
 cast-result-2 c = search powers
 
--- src/lib.rt:66:1
 returns : tie.Need-returns
 returns c = search powers
 

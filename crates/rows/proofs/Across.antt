@@ -76,8 +76,5 @@ pub topleft-below : (depth back : ℕ) (s : List ℕ) (a i end topleft : ℕ) �
     → topleft ≡ getD s (i - back - 1) 0 → topleft < 2 ^ depth
 topleft-below depth back s a i end topleft b h k q e = rw e (b .below (i - back - 1) (omega arith) (omega arith))
 
-pub next-after : (a i : ℕ) → a ≤ i → a ≤ i + 1
-next-after a i h = omega arith
-
 -- what the answers of a loop over a row search with
 pub ruleset across-rows = (sweep-start, sweep-end, left-step, across-step, left-next, topleft-next, topleft-below, above-set, needs)

@@ -1,4 +1,5 @@
-// The rows of a slice at a depth above 8, as src/bytes.rt has those of depth 8. Sums are taken at 32 bits, modulo 2^depth.
+// The rows of a slice at a depth above 8, as rows8 has those of depth 8. Document 01, "Prediction, slice by slice". Sums wrap at
+// 16 bits and are then taken modulo 2^depth, which divides 2^16. Residues may be 2^depth or more; the samples made are below it.
 ghost use mathlib.Core.Path.{_≡_};
 ghost use Prim.Native.Nat.{_+_, _-_, _%_, _^_, _≤_, _<_, min, max};
 ghost use lib.ListN.{length};
@@ -6,6 +7,7 @@ ghost use Rattle.scope.specs.Prediction.{gradient, t87Median};
 ghost use Rattle.memory.specs.Loop.{swept};
 ghost use Rattle.rows.specs.Rows.{leftward, across, Above, firstRow, laterRow, row};
 
+// The smaller of two samples.
 fn min_u16(a: u16, b: u16) -> u16
     ensures { λ r. ⌜ r ≡ min a b ⌝ }
 {
@@ -15,6 +17,7 @@ fn min_u16(a: u16, b: u16) -> u16
     b
 }
 
+// The larger of two samples.
 fn max_u16(a: u16, b: u16) -> u16
     ensures { λ r. ⌜ r ≡ max a b ⌝ }
 {
@@ -124,6 +127,7 @@ fn later_row_u16(kind: u8, s: &mut [u16], start: usize, end: usize, back: usize,
     median_row_u16(s, start + 1, end, back, depth);
 }
 
+// A row of either sort. The samples of the row f up are below 2^depth.
 pub fn row_u16(kind: u8, s: &mut [u16], start: usize, end: usize, back: usize, depth: usize)
     requires { ⌜ (0 < back) × (start < end) × (end ≤ length (now s)) ⌝ }
     requires { ⌜ Above depth back (now s) (start + 1) end ⌝ }

@@ -1,5 +1,5 @@
-// The rows of a slice at depth 8. Sums wrap, which is modulo 2^8. A row's column 0 is set first; the loop over the other
-// columns has no test but its end, and carries left and top-left.
+// The rows of a slice at depth 8. Document 01, "Prediction, slice by slice". Sums wrap, which is modulo 2^8. A row's column 0 is
+// set first; the loop over the other columns has no test but its end, and carries left and top-left.
 ghost use mathlib.Core.Path.{_≡_};
 ghost use Prim.Native.Nat.{_+_, _-_, _≤_, _<_, min, max};
 ghost use lib.ListN.{length};
@@ -7,6 +7,7 @@ ghost use Rattle.scope.specs.Prediction.{gradient, clampMedian};
 ghost use Rattle.memory.specs.Loop.{swept};
 ghost use Rattle.rows.specs.Rows.{leftward, across, firstRow, laterRow, row};
 
+// The smaller of two samples.
 fn min_u8(a: u8, b: u8) -> u8
     ensures { λ r. ⌜ r ≡ min a b ⌝ }
 {
@@ -16,6 +17,7 @@ fn min_u8(a: u8, b: u8) -> u8
     b
 }
 
+// The larger of two samples.
 fn max_u8(a: u8, b: u8) -> u8
     ensures { λ r. ⌜ r ≡ max a b ⌝ }
 {
@@ -114,6 +116,7 @@ fn later_row_u8(kind: u8, s: &mut [u8], start: usize, end: usize, back: usize)
     median_row_u8(s, start + 1, end, back);
 }
 
+// A row of either sort.
 pub fn row_u8(kind: u8, s: &mut [u8], start: usize, end: usize, back: usize)
     requires { ⌜ (0 < back) × (start < end) × (end ≤ length (now s)) ⌝ }
     ensures { λ _. ⌜ now (s .exit) ≡ row 8 kind back (now (s .entry)) start end ⌝ }

@@ -10,8 +10,8 @@ use native.Mathlib.Decide.{decLe}
 use native.Mathlib.Numerals.{add-one}
 use native.Mathlib.Omega.{arith}
 use borrow.Author.Needs.{needs}
-use lib.ListN.{length, getD, take, drop, set, length-append, length-set, length-drop, take-append-drop}
-use lib.Seq.{set-at, take-at, getD-at, drop-cons, append-snoc, drop-length, take-all, take-append-le, take-suc, take-take, getD-take, getD-drop, getD-append-add, getD-set-same}
+use lib.ListN.{length, getD, take, drop, set, length-append, length-set, take-append-drop}
+use lib.Seq.{set-at, take-at, getD-at, drop-cons, append-snoc, drop-length, take-all, take-append-le, take-suc, take-take, getD-take, getD-drop, getD-append-add}
 use Rattle.scope.specs.Base.{Step, grown, rebuilt}
 use Rattle.memory.specs.Loop.{swept}
 

@@ -1,10 +1,10 @@
 -- 2^depth for depths up to 16, as the code has it: a shift, a divisor, and a cap on what a remainder can be. Document 01,
 -- "All sums are modulo 2^depth". Assumes nothing.
-use mathlib.Core.Path.{_≡_}
-use Prim.Native.Nat.{ℕ, _*_, _%_, _^_, _≤_, _<_}
+use mathlib.Core.Path.{_≡_, ap, _∙_}
+use Prim.Native.Nat.{ℕ, _+_, _-_, _*_, _%_, _^_, _≤_, _<_}
 use native.Mathlib.Nat.{one-mul, mod-eq-of-lt, mod-lt}
 use native.Mathlib.Omega.{arith}
-use lib.Pow.{pow-pos, pow-mono, pow-lt}
+use lib.Pow.{pow-pos, pow-mono, pow-lt, mod-mod-pow}
 use borrow.Author.Needs.{needs}
 
 -- one shifted by depth
@@ -23,9 +23,15 @@ power-cap m depth e h = rw e (pow-mono {j = 16} h)
 pub mod-under : (n m depth : ℕ) → m ≡ 2 ^ depth → depth ≤ 16 → n % m < 65536
 mod-under n m depth e h = omega (arith, mod-lt n (power-pos m depth e), power-cap m depth e h)
 
--- a remainder by m is one by 2^depth
-pub mod-power : (n m depth : ℕ) → m ≡ 2 ^ depth → n % m ≡ n % 2 ^ depth
-mod-power n m depth e = rw e
+-- 2^depth divides 2^16
+pub mod-of-wrapped : (n depth : ℕ) → depth ≤ 16 → n % 2 ^ 16 % 2 ^ depth ≡ n % 2 ^ depth
+mod-of-wrapped n depth h =
+    let e : 16 ≡ 16 - depth + depth = omega arith in
+    ap (λ (k : ℕ). n % 2 ^ k % 2 ^ depth) e ∙ mod-mod-pow n (16 - depth) depth
+
+-- so a remainder of what wrapped at 16 bits is one of the whole
+pub wrapped-mod : (n w m depth : ℕ) → w ≡ n % 2 ^ 16 → m ≡ 2 ^ depth → depth ≤ 16 → w % m ≡ n % 2 ^ depth
+wrapped-mod n w m depth ew em h = rw (ew, em) (mod-of-wrapped n depth h)
 
 -- what the answers of a function that takes sums modulo 2^depth search with
-pub ruleset powers = (power-shift, power-pos, power-cap, mod-under, mod-power, needs)
+pub ruleset powers = (power-shift, power-pos, power-cap, mod-under, wrapped-mod, needs)

@@ -7,12 +7,12 @@ use native.Mathlib.Nat.{add-zero, add-suc, suc-inj}
 use native.Mathlib.Omega.{arith}
 use borrow.Author.Needs.{needs}
 use borrow.Author.Tests.{lt-ltb, le-ltb}
-use lib.ListN.{length, getD, take, drop, set, length-take, length-drop}
+use lib.ListN.{length, getD, take, drop, set, length-drop}
 use lib.Seq.{take-suc, getD-take, getD-drop, drop-drop, length-take-le}
 use Rattle.scope.specs.Base.{grown, part, replaced}
 use Rattle.scope.specs.Prediction.{plus}
 use Rattle.memory.specs.Sum.{added}
-use Rattle.memory.proofs.InPlace.{At, at-from, at-step, grown-take, grown-length, at-take}
+use Rattle.memory.proofs.InPlace.{At, at-from, at-step, grown-take, at-take}
 
 -- before the first turn
 pub add-start : (depth from to n : ℕ) (xs : List ℕ) → to + n ≤ length xs → At (added depth from to) xs xs (to + 0)

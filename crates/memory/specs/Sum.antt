@@ -1,6 +1,5 @@
 -- The steps of the loops that clear and that add one stretch of a buffer to a later one. Assumes nothing.
 use mathlib.Core.Bool.{cond}
-use mathlib.Core.List.{List}
 use Prim.Native.Nat.{ℕ, _+_, _-_, _%_, _^_}
 use lib.Dec.{ltb}
 use lib.ListN.{getD}

@@ -61,12 +61,14 @@ pub fn modulus(depth: usize) -> u32
     1u32 << depth
 }
 
-// The sum of two samples, modulo 2^depth. The samples may be 2^depth or more.
+// The sum of two samples, modulo 2^depth. The samples may be 2^depth or more. The sum wraps at 16 bits, so that all of it is
+// done at 16 bits once it is compiled; 2^depth divides 2^16.
 pub fn sum_u16(a: u16, b: u16, depth: usize) -> u16
     requires { ⌜ depth ≤ 16 ⌝ }
     ensures { λ r. ⌜ r ≡ (a + b) % 2 ^ depth ⌝ }
 {
-    ((a as u32 + b as u32) % modulus(depth)) as u16
+    let sum = std::num::wrapping_add_u16(a, b);
+    (sum as u32 % modulus(depth)) as u16
 }
 
 // The same as add_u8 for 16-bit samples, modulo 2^depth.

@@ -1,4 +1,2 @@
-pub mod Formulas
-pub mod Rows
 pub mod Slice
 pub mod Once

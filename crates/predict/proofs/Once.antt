@@ -14,10 +14,6 @@ use Rattle.predict.proofs.rebuild_part_u8 as rebuild-part-u8
 use Rattle.predict.proofs.rebuild_part_u8.Reads as rebuild-part-u8-reads
 use Rattle.predict.proofs.rebuild_part_u16 as rebuild-part-u16
 use Rattle.predict.proofs.rebuild_part_u16.Reads as rebuild-part-u16-reads
-use Rattle.predict.proofs.bytes.row_u8 as row-u8
-use Rattle.predict.proofs.bytes.row_u8.Reads as row-u8-reads
-use Rattle.predict.proofs.deep.row_u16 as row-u16
-use Rattle.predict.proofs.deep.row_u16.Reads as row-u16-reads
 
 pub rebuild-u8-once : (κs : Lfts 1) (a : ArgsD rebuild-u8.signature κs) (r₁ r₂ : ResD rebuild-u8.signature κs) (s₁ s₂ : AtExit rebuild-u8.ended κs)
     → rebuild-u8-reads.Post κs a r₁ s₁ → rebuild-u8-reads.Post κs a r₂ s₂ → now (s₁ .1 .0) ≡ now (s₂ .1 .0)
@@ -34,11 +30,3 @@ rebuild-part-u8-once κs a r₁ r₂ s₁ s₂ p q = p ∙ sym q
 pub rebuild-part-u16-once : (κs : Lfts 1) (a : ArgsD rebuild-part-u16.signature κs) (r₁ r₂ : ResD rebuild-part-u16.signature κs) (s₁ s₂ : AtExit rebuild-part-u16.ended κs)
     → rebuild-part-u16-reads.Post κs a r₁ s₁ → rebuild-part-u16-reads.Post κs a r₂ s₂ → now (s₁ .0) ≡ now (s₂ .0)
 rebuild-part-u16-once κs a r₁ r₂ s₁ s₂ p q = p ∙ sym q
-
-pub row-u8-once : (κs : Lfts 1) (a : ArgsD row-u8.signature κs) (r₁ r₂ : ResD row-u8.signature κs) (s₁ s₂ : AtExit row-u8.ended κs)
-    → row-u8-reads.Post κs a r₁ s₁ → row-u8-reads.Post κs a r₂ s₂ → now (s₁ .1 .0) ≡ now (s₂ .1 .0)
-row-u8-once κs a r₁ r₂ s₁ s₂ p q = p ∙ sym q
-
-pub row-u16-once : (κs : Lfts 1) (a : ArgsD row-u16.signature κs) (r₁ r₂ : ResD row-u16.signature κs) (s₁ s₂ : AtExit row-u16.ended κs)
-    → row-u16-reads.Post κs a r₁ s₁ → row-u16-reads.Post κs a r₂ s₂ → now (s₁ .1 .0) ≡ now (s₂ .1 .0)
-row-u16-once κs a r₁ r₂ s₁ s₂ p q = p ∙ sym q

@@ -1,8 +1,6 @@
 // Rebuilds a slice's samples from its residues, in place. Document 01, "Prediction, slice by slice". A slice is a stretch of
-// rows of one width; a row function knows only where its row starts and ends and how far back the row f up stands.
-mod bytes;
-mod deep;
-
+// rows of one width; the row functions, of rows8 and rows16, know only where a row starts and ends and how far back the row f
+// up stands.
 ghost use mathlib.Core.Path.{_≡_};
 ghost use Prim.Native.Nat.{_+_, _-_, _≤_, _<_, min};
 ghost use lib.ListN.{length};
@@ -30,7 +28,7 @@ pub fn rebuild_u8(kind: u8, s: &mut [u8], width: usize, f: usize)
     let mut start = 0;
     while start < s.len() {
         let end = row_end(start, width, s.len());
-        bytes::row_u8(kind, s, start, end, back);
+        rows8::row_u8(kind, s, start, end, back);
         start = end;
     }
 }
@@ -46,7 +44,7 @@ pub fn rebuild_u16(kind: u8, s: &mut [u16], width: usize, f: usize, depth: usize
     let mut start = 0;
     while start < s.len() {
         let end = row_end(start, width, s.len());
-        deep::row_u16(kind, s, start, end, back, depth);
+        rows16::row_u16(kind, s, start, end, back, depth);
         start = end;
     }
 }

@@ -1,5 +1,5 @@
 -- `predict::rebuild_u8` meets its contract: the loop goes over the slice row after row. Assumes nothing.
-use Prim.Native.Nat.{_-_, _*_, _≤_, _<_}
+use Prim.Native.Nat.{_-_, _*_, _<_}
 use mathlib.Core.Path.{_≡_}
 use lib.ListN.{length}
 use Rattle.predict.proofs.Slice.{Rows, slices}

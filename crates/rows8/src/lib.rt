@@ -1,0 +1,129 @@
+// The rows of a slice at depth 8. Document 01, "Prediction, slice by slice". Sums wrap, which is modulo 2^8. A row's column 0 is
+// set first; the loop over the other columns has no test but its end, and carries left and top-left.
+ghost use mathlib.Core.Path.{_≡_};
+ghost use Prim.Native.Nat.{_+_, _-_, _≤_, _<_, min, max};
+ghost use lib.ListN.{length};
+ghost use Rattle.scope.specs.Prediction.{gradient, clampMedian};
+ghost use Rattle.memory.specs.Loop.{swept};
+ghost use Rattle.rows.specs.Rows.{leftward, across, firstRow, laterRow, row};
+
+// The smaller of two samples.
+fn min_u8(a: u8, b: u8) -> u8
+    ensures { λ r. ⌜ r ≡ min a b ⌝ }
+{
+    if a < b {
+        return a;
+    }
+    b
+}
+
+// The larger of two samples.
+fn max_u8(a: u8, b: u8) -> u8
+    ensures { λ r. ⌜ r ≡ max a b ⌝ }
+{
+    if b < a {
+        return a;
+    }
+    b
+}
+
+// left + top - top-left, with left added last: it is the sample made just before.
+fn gradient_u8(left: u8, top: u8, topleft: u8) -> u8
+    ensures { λ r. ⌜ r ≡ gradient 8 left top topleft ⌝ }
+{
+    std::num::wrapping_add_u8(std::num::wrapping_sub_u8(top, topleft), left)
+}
+
+// The modular gradient, clamped between the smaller and the larger of left and top.
+fn clamp_median_u8(left: u8, top: u8, topleft: u8) -> u8
+    ensures { λ r. ⌜ r ≡ clampMedian 8 left top topleft ⌝ }
+{
+    let g = gradient_u8(left, top, topleft);
+    max_u8(min_u8(left, top), min_u8(g, max_u8(left, top)))
+}
+
+// Adds the left sample across.
+fn left_row_u8(s: &mut [u8], start: usize, end: usize)
+    requires { ⌜ (0 < start) × (start ≤ end) × (end ≤ length (now s)) ⌝ }
+    ensures { λ _. ⌜ now (s .exit) ≡ swept (leftward 8) (now (s .entry)) start (end - start) ⌝ }
+{
+    let mut left = s[start - 1];
+    let mut i = start;
+    while i < end {
+        left = std::num::wrapping_add_u8(s[i], left);
+        s[i] = left;
+        i += 1;
+    }
+}
+
+// Adds the gradient across.
+fn gradient_row_u8(s: &mut [u8], start: usize, end: usize, back: usize)
+    requires { ⌜ (0 < back) × (back < start) × (start ≤ end) × (end ≤ length (now s)) ⌝ }
+    ensures { λ _. ⌜ now (s .exit) ≡ swept (across 8 (gradient 8) back) (now (s .entry)) start (end - start) ⌝ }
+{
+    let mut left = s[start - 1];
+    let mut topleft = s[start - back - 1];
+    let mut i = start;
+    while i < end {
+        let top = s[i - back];
+        left = std::num::wrapping_add_u8(s[i], gradient_u8(left, top, topleft));
+        s[i] = left;
+        topleft = top;
+        i += 1;
+    }
+}
+
+// Adds the median of depth 8 across.
+fn median_row_u8(s: &mut [u8], start: usize, end: usize, back: usize)
+    requires { ⌜ (0 < back) × (back < start) × (start ≤ end) × (end ≤ length (now s)) ⌝ }
+    ensures { λ _. ⌜ now (s .exit) ≡ swept (across 8 (clampMedian 8) back) (now (s .entry)) start (end - start) ⌝ }
+{
+    let mut left = s[start - 1];
+    let mut topleft = s[start - back - 1];
+    let mut i = start;
+    while i < end {
+        let top = s[i - back];
+        left = std::num::wrapping_add_u8(s[i], clamp_median_u8(left, top, topleft));
+        s[i] = left;
+        topleft = top;
+        i += 1;
+    }
+}
+
+// One of the first f rows: it starts from its own first residue.
+fn first_row_u8(s: &mut [u8], start: usize, end: usize)
+    requires { ⌜ (start < end) × (end ≤ length (now s)) ⌝ }
+    ensures { λ _. ⌜ now (s .exit) ≡ firstRow 8 (now (s .entry)) start end ⌝ }
+{
+    s[start] = std::num::wrapping_add_u8(s[start], 0);
+    left_row_u8(s, start + 1, end);
+}
+
+// A later row: column 0 adds the sample f rows up, the others the predictor.
+fn later_row_u8(kind: u8, s: &mut [u8], start: usize, end: usize, back: usize)
+    requires { ⌜ (0 < back) × (back ≤ start) × (start < end) × (end ≤ length (now s)) ⌝ }
+    ensures { λ _. ⌜ now (s .exit) ≡ laterRow 8 kind back (now (s .entry)) start end ⌝ }
+{
+    s[start] = std::num::wrapping_add_u8(s[start], s[start - back]);
+    if kind == 1 {
+        left_row_u8(s, start + 1, end);
+        return;
+    }
+    if kind == 2 {
+        gradient_row_u8(s, start + 1, end, back);
+        return;
+    }
+    median_row_u8(s, start + 1, end, back);
+}
+
+// A row of either sort.
+pub fn row_u8(kind: u8, s: &mut [u8], start: usize, end: usize, back: usize)
+    requires { ⌜ (0 < back) × (start < end) × (end ≤ length (now s)) ⌝ }
+    ensures { λ _. ⌜ now (s .exit) ≡ row 8 kind back (now (s .entry)) start end ⌝ }
+{
+    if start < back {
+        first_row_u8(s, start, end);
+        return;
+    }
+    later_row_u8(kind, s, start, end, back);
+}

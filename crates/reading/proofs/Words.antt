@@ -27,6 +27,10 @@ module _ (ls workspace : List ℕ) (a e m : ℕ) (t : TableAt ls workspace a e m
   words-asked limit n h k =
       rw (t .longest-is) (code-readable ls (take (e - a) (drop a workspace)) payload looks limit 0 n (t .short) h (omega arith))
 
+  -- 16-bit samples hold every symbol that there may be
+  pub words-asked-16 : (n : ℕ) → length ls ≤ 16384 → n ≤ 268435456 → Readable (lookupIn (take (e - a) (drop a workspace)) m payload) (2 ^ 16) 0 n
+  words-asked-16 n h k = words-asked (2 ^ 16) n (omega (arith, h)) k
+
   -- and what it gives
   module _ (n : ℕ) (r : Reached) (out : List ℕ) (w : WordsRead (lookupIn (take (e - a) (drop a workspace)) m payload) 0 n r out) where
     own : chainBy (lookupIn (take (e - a) (drop a workspace)) m payload) 0 n ≡ chain ls payload 0 n

@@ -1,13 +1,15 @@
 -- What the functions that read a slice promise each other (document 01, "Layout" and "Words and lookup"). Assumes nothing.
 use mathlib.Core.Path.{_≡_}
-use mathlib.Core.Bool.{Bool, true, false}
+use mathlib.Core.Bool.{Bool, true, false, cond}
 use mathlib.Core.List.{List}
-use Prim.Native.Nat.{ℕ, _+_, _-_, _≤_, _<_}
-use lib.ListN.{length}
+use Prim.Native.Nat.{ℕ, _+_, _-_, _*_, _%_, _^_, _≤_, _<_}
+use lib.Dec.{eqb}
+use lib.ListN.{length, take, drop, getD}
 use Rattle.scope.specs.Base.{part}
 use Rattle.scope.specs.Geometry.{planeCount, sliceCount, lengthsOf}
 use Rattle.scope.specs.Layout.{preambleStart, planeIndex, samplesIn}
-use Rattle.scope.specs.Words.{longest, shares, Chain, symbols, stuckAt}
+use Rattle.scope.specs.Bits.{rawSamples}
+use Rattle.scope.specs.Words.{longest, shares, Chain, symbols, stuckAt, chain}
 use Rattle.scope.specs.Lookup.{tableOf}
 use Rattle.scope.specs.Frame.{sliceCheck}
 use Rattle.scope.specs.declared.Geometry.{Geometry}
@@ -18,6 +20,14 @@ use Rattle.figures.specs.Sound.{Sound}
 pub record Residues (c : Chain) (all : Bool) (out : List ℕ) : Type 0 where
   pub read : all ≡ true → c ≡ symbols out
   pub stuck : all ≡ false → (at : ℕ) × (c ≡ stuckAt at)
+
+-- the residues of a slice that stands in the frame from `from` to `to`: its flag, its predictor, and its payload, of n samples
+unfoldable pub residuesIn : ℕ → List ℕ → List ℕ → ℕ → ℕ → ℕ → Chain
+residuesIn depth ls frame from to n =
+    let payload : List ℕ = take (to - (from + 2)) (drop (from + 2) frame) in
+    let raw : Chain = symbols (rawSamples depth payload n) in
+    let coded : Chain = chain ls payload 0 n in
+    cond (eqb (getD frame from 0 % 2) 1) raw coded
 
 -- the table of the code ls stands in the workspace from a to e, and m is its longest length
 pub record TableAt (ls workspace : List ℕ) (a e m : ℕ) : Type 0 where
@@ -38,5 +48,7 @@ pub record Sliced (frame : List ℕ) (g : Geometry) (lengths : List ℕ) (t s p 
   pub indices : preambleStart g + 1 + sliceCount g ≤ length frame
   pub passed : Done ≡ sliceCheck frame g lengths s
   pub plane : p ≡ planeIndex frame g s
+  pub below-planes : p < planeCount g
   pub samples : n ≡ samplesIn frame g s
   pub most : n ≤ 268435456
+  pub lengths-are : length lengths ≡ planeCount g * 2 ^ g .depth

@@ -3,7 +3,7 @@ use scope::Geometry;
 use words::Weighed;
 ghost use mathlib.Core.Path.{_≡_};
 ghost use Prim.Native.Nat.{_+_, _*_, _-_, _^_, _<_, _≤_};
-ghost use lib.ListN.{length, set};
+ghost use lib.ListN.{length, getD, set};
 ghost use Rattle.scope.specs.Base.{replaced};
 ghost use Rattle.scope.specs.Refusals.{inOrder};
 ghost use Rattle.scope.specs.Geometry.{planeCount, lengthsOf};
@@ -110,4 +110,25 @@ pub fn build_all(g: Geometry, lengths: &[u8], workspace: &mut [u32]) -> Codes
         p += 1;
     }
     c
+}
+
+// One plane's stretch of the workspace, and its longest length.
+pub struct Stretch {
+    pub from: usize,
+    pub to: usize,
+    pub longest: usize,
+}
+
+pub fn code_of(c: Codes, p: usize) -> Stretch
+    requires { ⌜ p < 4 ⌝ }
+    ensures { λ r. ⌜ (r .from ≡ getD (c .from) p 0) × (r .to ≡ getD (c .to) p 0) × (r .longest ≡ getD (c .longest) p 0) ⌝ }
+{
+    let from = c.from;
+    let to = c.to;
+    let longest = c.longest;
+    Stretch {
+        from: from[p],
+        to: to[p],
+        longest: longest[p],
+    }
 }

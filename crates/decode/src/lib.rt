@@ -5,11 +5,12 @@ use scope::Geometry;
 use tables::Codes;
 ghost use mathlib.Core.Path.{_≡_};
 ghost use mathlib.Core.Bool.{true, false};
-ghost use Prim.Native.Nat.{_<_, _≤_};
+ghost use Prim.Native.Nat.{_*_, _^_, _<_, _≤_};
 ghost use lib.ListN.{length};
 ghost use Rattle.scope.specs.Geometry.{planeCount, sliceCount, allSamples};
 ghost use Rattle.scope.specs.Frame.{readCheck, readChecks, wirePlane, pictureOf, restOf, Decoded};
 ghost use Rattle.scope.specs.declared.Answer.the-variants.{Done};
+ghost use Rattle.figures.specs.Sound.{Sound};
 ghost use Rattle.layout.specs.Placed.{Placed};
 ghost use Rattle.tables.specs.Tables.{Tables, Coded};
 ghost use Rattle.planes.specs.Standing.{Planes};
@@ -42,7 +43,19 @@ fn place_slice_u8(
     let at = figures::place_start(g, p, k);
     let n = figures::place_samples(g, p, k);
     let c = tables::code_of(codes, p);
-    reading::slice_u8(frame, g, lengths, t, s, p, workspace, c.from, c.to, c.longest, &mut planes[at..at + n])
+    reading::slice_u8(
+        frame,
+        g,
+        lengths,
+        t,
+        s,
+        p,
+        workspace,
+        c.from,
+        c.to,
+        c.longest,
+        &mut planes[at..at + n],
+    )
 }
 
 // Every slice in wire order, each into its place.
@@ -79,6 +92,68 @@ fn read_slices_u8(
     Answer::Done
 }
 
+// The checks, the tables, the reading and the colours of depth 8. What a refusal leaves in lent memory is not said: the entry clears it.
+fn run_u8(
+    frame: &[u8],
+    g: Geometry,
+    lengths: &[u8],
+    planes: &mut [u8],
+    workspace: &mut [u32],
+) -> Answer
+    requires { ⌜ Sound g ⌝ }
+    requires { ⌜ length (now lengths) ≡ planeCount g * 2 ^ g .depth ⌝ }
+    requires { ⌜ (length (now planes) ≡ allSamples g) × (g .depth ≡ 8) ⌝ }
+    ensures answer { λ r. ⌜ r ≡ restOf (now (frame .entry)) g (now (lengths .entry)) (length (now (workspace .entry))) ⌝ }
+    ensures planes { λ r. ⌜ (r ≡ Done → now (planes .exit) ≡ pictureOf (now (frame .entry)) g (now (lengths .entry))) ⌝ }
+{
+    let a = frame::check_frame(frame, g, lengths, workspace.len());
+    match a {
+        Answer::Refused(n, w) => Answer::Refused(n, w),
+        Answer::Done => {
+            let codes = tables::build_all(g, lengths, workspace);
+            let b = read_slices_u8(frame, g, lengths, workspace, codes, planes);
+            match b {
+                Answer::Refused(n, w) => Answer::Refused(n, w),
+                Answer::Done => {
+                    planes::add_green_u8(g, planes);
+                    Answer::Done
+                }
+            }
+        }
+    }
+}
+
+// The entry for depth 8. Refusals 1 to 4 leave planes and workspace as found; any other leaves both wholly zero; success leaves the
+// workspace zero.
+pub fn decode8(
+    frame: &[u8],
+    g: Geometry,
+    lengths: &[u8],
+    planes: &mut [u8],
+    workspace: &mut [u32],
+) -> Answer
+    ensures { λ r. ⌜ Decoded false (now (frame .entry)) g (now (lengths .entry)) (now (planes .entry)) (now (workspace .entry)) r (now (planes .exit)) (now (workspace .exit)) ⌝ }
+{
+    let a = lent::lent_checks(false, g, lengths.len(), planes.len());
+    match a {
+        Answer::Refused(n, w) => Answer::Refused(n, w),
+        Answer::Done => {
+            let r = run_u8(frame, g, lengths, planes, workspace);
+            match r {
+                Answer::Refused(n, w) => {
+                    memory::clear_u8(planes);
+                    memory::clear_u32(workspace);
+                    Answer::Refused(n, w)
+                }
+                Answer::Done => {
+                    memory::clear_u32(workspace);
+                    Answer::Done
+                }
+            }
+        }
+    }
+}
+
 // ---- depths 10, 12 and 14
 
 // Slice s, which is place k of plane p, into its part of the planes.
@@ -106,7 +181,19 @@ fn place_slice_u16(
     let at = figures::place_start(g, p, k);
     let n = figures::place_samples(g, p, k);
     let c = tables::code_of(codes, p);
-    reading::slice_u16(frame, g, lengths, t, s, p, workspace, c.from, c.to, c.longest, &mut planes[at..at + n])
+    reading::slice_u16(
+        frame,
+        g,
+        lengths,
+        t,
+        s,
+        p,
+        workspace,
+        c.from,
+        c.to,
+        c.longest,
+        &mut planes[at..at + n],
+    )
 }
 
 // Every slice in wire order, each into its place.
@@ -141,4 +228,66 @@ fn read_slices_u16(
         }
     }
     Answer::Done
+}
+
+// The checks, the tables, the reading and the colours of depths 10, 12 and 14. What a refusal leaves in lent memory is not said: the entry clears it.
+fn run_u16(
+    frame: &[u8],
+    g: Geometry,
+    lengths: &[u8],
+    planes: &mut [u16],
+    workspace: &mut [u32],
+) -> Answer
+    requires { ⌜ Sound g ⌝ }
+    requires { ⌜ length (now lengths) ≡ planeCount g * 2 ^ g .depth ⌝ }
+    requires { ⌜ (length (now planes) ≡ allSamples g) × (8 < g .depth) ⌝ }
+    ensures answer { λ r. ⌜ r ≡ restOf (now (frame .entry)) g (now (lengths .entry)) (length (now (workspace .entry))) ⌝ }
+    ensures planes { λ r. ⌜ (r ≡ Done → now (planes .exit) ≡ pictureOf (now (frame .entry)) g (now (lengths .entry))) ⌝ }
+{
+    let a = frame::check_frame(frame, g, lengths, workspace.len());
+    match a {
+        Answer::Refused(n, w) => Answer::Refused(n, w),
+        Answer::Done => {
+            let codes = tables::build_all(g, lengths, workspace);
+            let b = read_slices_u16(frame, g, lengths, workspace, codes, planes);
+            match b {
+                Answer::Refused(n, w) => Answer::Refused(n, w),
+                Answer::Done => {
+                    planes::add_green_u16(g, planes);
+                    Answer::Done
+                }
+            }
+        }
+    }
+}
+
+// The entry for depths 10, 12 and 14. Refusals 1 to 4 leave planes and workspace as found; any other leaves both wholly zero; success leaves the
+// workspace zero.
+pub fn decode16(
+    frame: &[u8],
+    g: Geometry,
+    lengths: &[u8],
+    planes: &mut [u16],
+    workspace: &mut [u32],
+) -> Answer
+    ensures { λ r. ⌜ Decoded true (now (frame .entry)) g (now (lengths .entry)) (now (planes .entry)) (now (workspace .entry)) r (now (planes .exit)) (now (workspace .exit)) ⌝ }
+{
+    let a = lent::lent_checks(true, g, lengths.len(), planes.len());
+    match a {
+        Answer::Refused(n, w) => Answer::Refused(n, w),
+        Answer::Done => {
+            let r = run_u16(frame, g, lengths, planes, workspace);
+            match r {
+                Answer::Refused(n, w) => {
+                    memory::clear_u16(planes);
+                    memory::clear_u32(workspace);
+                    Answer::Refused(n, w)
+                }
+                Answer::Done => {
+                    memory::clear_u32(workspace);
+                    Answer::Done
+                }
+            }
+        }
+    }
 }

@@ -104,6 +104,7 @@ pub record Read (payload : List ℕ) (at k w j : ℕ) : Type 0 where
   pub small : w < 262144
 
 module _ (payload : List ℕ) (at k : ℕ) where
+  -- before the first bit
   pub read-start : Read payload at k 0 0
   unfolding bits.window
   read-start = record { made = refl; within = omega arith; small = omega arith }

@@ -39,6 +39,7 @@ need-refused (Refused i v) n m w e = cc
 -- ---- 9 to 14
 
 module _ (frame : List ℕ) (g : Geometry) (lengths : List ℕ) (workspaceLen : ℕ) (a : Weighed) (ea : a ≡ lengthsWeighed g lengths) where
+  -- 9 and 10
   pub words-refused : (m : ℕ) (w : Place) → a ≡ weighed.Refused m w → Refused m w ≡ wordChecks frame g lengths workspaceLen
   unfolding wrd.lengthsWeighed wrd.wordChecks
   words-refused m w h = rw (need-refused (inOrder (planeCount g) (lengthCheck g lengths)) (needOfAll g lengths) m w (sym h ∙ ea))
@@ -52,10 +53,12 @@ module _ (frame : List ℕ) (g : Geometry) (lengths : List ℕ) (workspaceLen : 
     unfolding wrd.lengthsWeighed
     need-all = need-done (inOrder (planeCount g) (lengthCheck g lengths)) (needOfAll g lengths) n (sym h ∙ ea) .1
 
+    -- 11
     pub words-11 : workspaceLen < n → Refused 11 Nothing ≡ wordChecks frame g lengths workspaceLen
     unfolding wrd.wordChecks
     words-11 l = rw (passed, ← need-all, lt-ltb workspaceLen n l)
 
+    -- else the slices' answer
     pub words-slices : (r : Answer) → n ≤ workspaceLen → r ≡ inOrder (sliceCount g) (sliceCheck frame g lengths) → r ≡ wordChecks frame g lengths workspaceLen
     unfolding wrd.wordChecks
     words-slices r l e = rw (passed, ← need-all, le-ltb workspaceLen n l) e
@@ -74,12 +77,15 @@ module _ (frame : List ℕ) (g : Geometry) (lengths : List ℕ) (workspaceLen : 
       go Done b c = refl
       go (Refused n w) b c = refl
 
+  -- a refusal of the first is the answer
   pub frame-early : (a : Answer) (n : ℕ) (w : Place) → a ≡ layoutChecks frame g → a ≡ Refused n w → Refused n w ≡ frameChecks frame g lengths workspaceLen
   frame-early a n w e h = rw (frame-steps, ← e, h)
 
+  -- else the second step gives it
   pub frame-late : (a b : Answer) → a ≡ layoutChecks frame g → a ≡ Done → b ≡ wordChecks frame g lengths workspaceLen → b ≡ frameChecks frame g lengths workspaceLen
   frame-late a b e h k = rw (frame-steps, ← e, h) k
 
+  -- and then none of 5 to 8 applies
   pub layout-told : (a : Answer) → a ≡ layoutChecks frame g → a ≡ Done → Done ≡ layoutChecks frame g
   layout-told a e h = sym h ∙ e
 

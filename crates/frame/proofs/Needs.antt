@@ -44,6 +44,7 @@ pub record Summed (g : Geometry) (lengths : List ℕ) (planes sum p : ℕ) : Typ
   pub few : planes ≤ 4
 
 module _ (g : Geometry) (lengths : List ℕ) (planes : ℕ) where
+  -- before the first plane
   pub summed-start : planes ≡ planeCount g → Summed g lengths planes 0 0
   unfolding base.sumBelow
   summed-start ep = record {
@@ -56,6 +57,7 @@ module _ (g : Geometry) (lengths : List ℕ) (planes : ℕ) where
   }
 
   module _ (sum p : ℕ) (w : Summed g lengths planes sum p) where
+    -- past the last one
     pub summed-end : planes ≤ p → Need sum ≡ lengthsWeighed g lengths
     unfolding wrd.lengthsWeighed frm.needOfAll
     summed-end h =
@@ -65,6 +67,7 @@ module _ (g : Geometry) (lengths : List ℕ) (planes : ℕ) where
         rw (← e) (ap Need s)
 
     module _ (l : p < planes) where
+      -- plane p is one of them
       pub summed-below : p < planeCount g
       summed-below = rw (w .planes-are) at l
 
@@ -72,6 +75,7 @@ module _ (g : Geometry) (lengths : List ℕ) (planes : ℕ) where
         check-is : answerOf r ≡ lengthCheck g lengths p
         check-is = ap answerOf er ∙ weighed-check g lengths p
 
+        -- plane p is refused
         pub summed-refused : (n : ℕ) (pl : Place) → r ≡ Refused n pl → Refused n pl ≡ lengthsWeighed g lengths
         unfolding wrd.lengthsWeighed
         summed-refused n pl h =
@@ -86,9 +90,11 @@ module _ (g : Geometry) (lengths : List ℕ) (planes : ℕ) where
           need-most : n ≤ 266240
           need-most = omega (arith, need-is (lengthsOf g lengths p) p n weighed-is, need-passes (lengthsOf g lengths p) p n weighed-is .bounded)
 
+          -- the sum fits 64 bits
           pub summed-fits : Fits w64 (sum + n)
           summed-fits = record { fits = omega (arith, need-most, w .most, w .few) }
 
+          -- plane p's need is added
           pub summed-step : Summed g lengths planes (sum + n) (p + 1)
           unfolding base.sumBelow
           summed-step = record {

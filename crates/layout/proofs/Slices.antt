@@ -38,10 +38,12 @@ module _ (frame : List ℕ) (g : Geometry) where
   both-passed true b n m e = (cc, cc)
   both-passed false true n m e = (cc, cc)
 
+  -- a slice that passed names a plane
   pub index-below : (s : ℕ) → Done ≡ indexCheck frame g s → planeIndex frame g s < planeCount g
   unfolding frm.indexCheck lay.placeInPlane
   index-below s e = leb-false _ _ (both-passed (leb (planeCount g) (planeIndex frame g s)) (leb (slicesPerPlane g) (namedBefore frame g (planeIndex frame g s) s)) 8 s e .0)
 
+  -- which has room for it
   pub index-room : (s : ℕ) → Done ≡ indexCheck frame g s → namedBefore frame g (planeIndex frame g s) s < slicesPerPlane g
   unfolding frm.indexCheck lay.placeInPlane
   index-room s e = leb-false _ _ (both-passed (leb (planeCount g) (planeIndex frame g s)) (leb (slicesPerPlane g) (namedBefore frame g (planeIndex frame g s) s)) 8 s e .1)
@@ -51,6 +53,7 @@ module _ (frame : List ℕ) (g : Geometry) where
   unfolding lay.namedBefore
   named-here s = rw (eq-eqb (planeIndex frame g s) (planeIndex frame g s) refl) (omega arith)
 
+  -- no other plane has one more
   pub named-other : (p s : ℕ) → (p ≡ planeIndex frame g s → ⊥) → namedBefore frame g p (suc s) ≡ namedBefore frame g p s
   unfolding lay.namedBefore
   named-other p s ne = rw (ne-eqb (planeIndex frame g s) p (λ z. ne (sym z))) (omega arith)
@@ -83,6 +86,7 @@ module _ (frame : List ℕ) (g : Geometry) where
   unfolding lay.namedBefore
   counted-none seen e h = record { counts = λ p l. h p; four = e }
 
+  -- one slice counted
   pub counted-more : (seen : List ℕ) (s q : ℕ) → q ≡ planeIndex frame g s → q < 4 → Counted frame g seen s → Counted frame g (set seen q (getD seen q 0 + 1)) (s + 1)
   counted-more seen s q eq l c =
       record { counts = λ p h. go p h (ℕ-discrete p q); four = simp length-set (c .four) }
@@ -103,9 +107,11 @@ zeros (suc (suc (suc zero))) = refl
 zeros (suc (suc (suc (suc p)))) = refl
 
 module _ (frame : List ℕ) (g : Geometry) where
+  -- four zeros count none
   pub counted-start : Counted frame g (0 ∷ 0 ∷ 0 ∷ 0 ∷ []) 0
   counted-start = counted-none frame g (0 ∷ 0 ∷ 0 ∷ 0 ∷ []) refl zeros
 
+  -- the byte that is read is the index
   pub index-is : (s t r : ℕ) → t ≡ sliceCount g → r ≡ getD frame (32 + 4 * (t + 1) + 1 + s) 0 → r ≡ planeIndex frame g s
   unfolding lay.planeIndex
   index-is s t r e h = rw e at h
@@ -122,6 +128,7 @@ pub record Walk (frame : List ℕ) (g : Geometry) (planes k t : ℕ) (seen : Lis
   pub slices-are : t ≡ sliceCount g
 
 module _ (frame : List ℕ) (g : Geometry) (planes k t : ℕ) where
+  -- before the first slice
   pub walk-start : planes ≡ planeCount g → k ≡ slicesPerPlane g → t ≡ sliceCount g → Walk frame g planes k t (0 ∷ 0 ∷ 0 ∷ 0 ∷ []) 0
   walk-start ep ek et =
       record {
@@ -136,12 +143,14 @@ module _ (frame : List ℕ) (g : Geometry) (planes k t : ℕ) where
       }
 
   module _ (seen : List ℕ) (s : ℕ) (w : Walk frame g planes k t seen s) where
+    -- past the last one
     pub walk-end : t ≤ s → Done ≡ inOrder (sliceCount g) (indexCheck frame g)
     walk-end h =
         let z : s ≡ sliceCount g = omega (arith, w .within, w .slices-are) in
         rw z at (w .passed)
 
     module _ (p : ℕ) (ls : s < t) (ei : p ≡ planeIndex frame g s) where
+      -- a slice that names no plane
       pub walk-no-plane : planes ≤ p → Refused 8 (Slice s) ≡ inOrder (sliceCount g) (indexCheck frame g)
       unfolding frm.indexCheck lay.placeInPlane
       walk-no-plane h =
@@ -152,12 +161,14 @@ module _ (frame : List ℕ) (g : Geometry) (planes k t : ℕ) where
         so-far : getD seen p 0 ≡ namedBefore frame g (planeIndex frame g s) s
         so-far = let l : p < planeCount g = rw (w .planes-are) at lp in w .counted .counts p l ∙ ap (λ (y : ℕ). namedBefore frame g y s) ei
 
+        -- a slice whose plane has its K
         pub walk-all-there : k ≤ getD seen p 0 → Refused 8 (Slice s) ≡ inOrder (sliceCount g) (indexCheck frame g)
         unfolding frm.indexCheck lay.placeInPlane
         walk-all-there h =
             one-refused (indexCheck frame g) (sliceCount g) s 8 (Slice s) (rw (w .slices-are) at ls) (w .passed)
             (rw (← so-far, ← w .per-plane-is, le-leb k (getD seen p 0) h, ← ei, ← w .planes-are, lt-leb planes p lp))
 
+        -- any other
         pub walk-step : getD seen p 0 < k → Walk frame g planes k t (set seen p (getD seen p 0 + 1)) (s + 1)
         unfolding frm.indexCheck lay.placeInPlane
         walk-step h =

@@ -43,12 +43,15 @@ module _ (g : Geometry) (lengths : List ℕ) (p n : ℕ) (el : length lengths �
     all-small : length lengths ≤ 268435456
     all-small = omega (arith, together, samples-most (planeCount g) n (omega (arith, planes-most (g .family))) h)
 
+    -- its start fits 64 bits
     pub part-start-fits : Fits w64 (p * n)
     part-start-fits = record { fits = omega (arith, part-room, all-small) }
 
+    -- and so does its end
     pub part-end-fits : Fits w64 (p * n + n)
     part-end-fits = record { fits = omega (arith, part-room, all-small) }
 
+    -- it is at most 16,384 long
     pub part-length : length (take (p * n + n - p * n) (drop (p * n) lengths)) ≤ 16384
     part-length =
         let e : p * n + n - p * n ≡ n = omega arith in
@@ -87,6 +90,7 @@ zeros (suc (suc (suc zero))) = refl
 zeros (suc (suc (suc (suc p)))) = refl
 
 module _ (g : Geometry) (lengths : List ℕ) (planes : ℕ) where
+  -- none is found yet
   pub found-start : length lengths ≡ planeCount g * 2 ^ g .depth → planes ≡ planeCount g → Found g lengths planes (0 ∷ 0 ∷ 0 ∷ 0 ∷ []) 0
   found-start el ep = record {
     planes-are = ep;
@@ -100,9 +104,11 @@ module _ (g : Geometry) (lengths : List ℕ) (planes : ℕ) where
   }
 
   module _ (at : List ℕ) (p : ℕ) (w : Found g lengths planes at p) where
+    -- plane p is one of them
     pub found-below : p < planes → p < planeCount g
     found-below l = rw (w .planes-are) at l
 
+    -- one more
     pub found-step : (r : ℕ) → p < planes → r ≡ shortest (lengthsOf g lengths p) → r < 256 → Found g lengths planes (set at p r) (p + 1)
     found-step r l e b = record {
       planes-are = w .planes-are;
@@ -126,6 +132,7 @@ module _ (g : Geometry) (lengths : List ℕ) (planes : ℕ) where
         small q (yes z) = rw (z, getD-set-same at p r 0 inside) b
         small q (no z) = rw (getD-set-other at p q r 0 z) (w .small q)
 
+    -- all of them
     pub found-all : planes ≤ p → Shortests g lengths at
     found-all h = record {
       each = λ q l. each q (decLe (suc q) planes);

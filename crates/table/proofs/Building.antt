@@ -86,35 +86,35 @@ module _ (ls workspace : List ℕ) where
             let g : Refused k q ≡ Refused n p = cc in
             subst (λ (r : Answer). BuiltAlone ls workspace r workspace) g b
 
-    module _ (n : ℕ) (e : o ≡ weigh.Need n) where
-      passes : Passes ls
-      passes = need-passes ls 0 n (sym is ∙ e)
+  module _ (few : length ls ≤ 16384) (o : Weighed) (plane : ℕ) (is : o ≡ weighed ls plane) (n : ℕ) (e : o ≡ weigh.Need n) where
+    passes : Passes ls
+    passes = need-passes ls plane n (sym is ∙ e)
 
-      size : n ≡ need ls
-      size = need-is ls 0 n (sym is ∙ e)
+    size : n ≡ need ls
+    size = need-is ls plane n (sym is ∙ e)
 
-      pub build-11 : length workspace < n → BuiltAlone ls workspace (Refused 11 Nothing) workspace
-      build-11 h = refused 11 Nothing (answer-11 ls (length workspace) few (passes .small) (passes .full) (omega (arith, size))) (omega arith)
+    pub build-11 : length workspace < n → BuiltAlone ls workspace (Refused 11 Nothing) workspace
+    build-11 h = refused 11 Nothing (answer-11 ls (length workspace) few (passes .small) (passes .full) (omega (arith, size))) (omega arith)
 
-      -- what `build_part` asks
-      pub part-small : longest ls ≤ 18
-      part-small = passes .small
+    -- what `build_part` asks
+    pub part-small : longest ls ≤ 18
+    part-small = passes .small
 
-      pub part-full : shares ls ≤ 262144
-      part-full = passes .full
+    pub part-full : shares ls ≤ 262144
+    part-full = passes .full
 
-      pub part-size : n - 0 ≡ need ls
-      part-size = sub-zero n ∙ size
+    pub part-size : n - 0 ≡ need ls
+    part-size = sub-zero n ∙ size
 
-      pub build-done : (workspace′ : List ℕ) → n ≤ length workspace → workspace′ ≡ replaced workspace 0 (n - 0) (tableOf ls)
-          → BuiltAlone ls workspace Done workspace′
-      unfolding workspaceBuilt leftBy
-      build-done workspace′ h f =
-          let g : buildAnswer ls (length workspace) ≡ Done = answer-done ls (length workspace) few (passes .small) (passes .full) (omega (arith, size)) in
-          record {
-            answer = sym g;
-            workspace = f ∙ ap (λ (k : ℕ). tableOf ls ++ drop k workspace) part-size ∙ rw g refl;
-          }
+    pub build-done : (workspace′ : List ℕ) → n ≤ length workspace → workspace′ ≡ replaced workspace 0 (n - 0) (tableOf ls)
+        → BuiltAlone ls workspace Done workspace′
+    unfolding workspaceBuilt leftBy
+    build-done workspace′ h f =
+        let g : buildAnswer ls (length workspace) ≡ Done = answer-done ls (length workspace) few (passes .small) (passes .full) (omega (arith, size)) in
+        record {
+          answer = sym g;
+          workspace = f ∙ ap (λ (k : ℕ). tableOf ls ++ drop k workspace) part-size ∙ rw g refl;
+        }
 
 pub ruleset building = (build-4, build-refused, build-11, part-small, part-full, part-size, build-done, needs)
 

@@ -36,6 +36,7 @@ module _ (ls workspace : List ℕ) (from to : ℕ) (a : from ≤ to) (b : to ≤
   pub built-before : (at n : ℕ) → at + n ≤ from → part (replaced workspace from (to - from) (tableOf ls)) at n ≡ part workspace at n
   built-before at n h = ap (λ (w : List ℕ). part w at n) is ∙ part-before workspace (tableOf ls) from fits at n h
 
+  -- and one that lies after it
   pub built-after : (at n : ℕ) → to ≤ at → part (replaced workspace from (to - from) (tableOf ls)) at n ≡ part workspace at n
   built-after at n h =
       ap (λ (w : List ℕ). part w at n) is ∙ part-after workspace (tableOf ls) from fits at n (omega (arith, size))

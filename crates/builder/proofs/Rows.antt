@@ -1,21 +1,21 @@
 -- Where a code's words stand in its table: each symbol's row of slots lies within its part, and no word of up to 12 bits begins a
 -- slot of the second part (document 01, "Words and lookup"). Assumes nothing.
-use mathlib.Core.Path.{_≡_, refl, sym, ap, _∙_, subst}
-use Prim.Native.Nat.{ℕ, zero, suc, _+_, _-_, _*_, _/_, _^_, _≤_, _<_, min}
-use native.Mathlib.Nat.{mul-le-mul-right, mul-assoc, div-lt-iff-lt-mul, div-div-eq-div-mul, add-mul, one-mul, div-eq-of-lt-le, div-mul-le-self, lt-div-mul-add, le-trans, mul-le-mul-left, mul-one}
+use mathlib.Core.Path.{_≡_, sym, ap, _∙_, subst}
+use Prim.Native.Nat.{ℕ, suc, _+_, _-_, _*_, _/_, _^_, _≤_, _<_, min}
+use native.Mathlib.Nat.{mul-le-mul-right, mul-assoc, div-lt-iff-lt-mul, div-div-eq-div-mul, add-mul, div-eq-of-lt-le, div-mul-le-self, lt-div-mul-add}
 use native.Mathlib.Decide.{decLe}
 use native.Mathlib.Omega.{arith}
 use mathlib.Core.List.{List}
-use lib.Pow.{pow-pos, pow-mono, pow-add}
+use lib.Pow.{pow-pos, pow-add}
 use lib.ListN.{length}
-use Rattle.scope.specs.Words.{longest, lengthOf, wordOf, first, heads, need}
+use Rattle.scope.specs.Words.{longest, lengthOf, wordOf, first, heads}
 use Rattle.laws.specs.Tiers.{end}
 use Rattle.laws.proofs.Counts.{at-most-longest}
 use Rattle.laws.proofs.Words.{first-le-word, word-lt-end, before-shorter}
 use Rattle.laws.proofs.Kraft.{word-fits}
-use Rattle.laws.proofs.Heads.{heads-first, first-small, need-small}
+use Rattle.laws.proofs.Heads.{heads-first, need-small}
 use Rattle.laws.proofs.Table.{need-short, need-long}
-use Rattle.builder.specs.Slots.{slotBits, slotBase, Row, Ready}
+use Rattle.builder.specs.Slots.{slotBits, Row, Ready}
 use Rattle.builder.proofs.Filling.{bits-first, base-first, bits-second, base-second}
 
 -- ---- a row of slots
@@ -24,6 +24,7 @@ use Rattle.builder.proofs.Filling.{bits-first, base-first, bits-second,
 pub row-of : (v i j : ℕ) → v * 2 ^ j ≤ i → i < v * 2 ^ j + 2 ^ j → i / 2 ^ j ≡ v
 row-of v i j a b = div-eq-of-lt-le (2 ^ j) a (omega arith)
 
+-- and the other way round
 pub of-row : (v i j : ℕ) → i / 2 ^ j ≡ v → (v * 2 ^ j ≤ i) × (i < v * 2 ^ j + 2 ^ j)
 of-row v i j e = (rw e at (div-mul-le-self i (2 ^ j)), rw e at (lt-div-mul-add {a = i} (pow-pos j)))
 

@@ -1,26 +1,20 @@
 -- The slots that are placed, and the marks that lead to the second part, are the table (document 01, "Words and lookup").
 -- Assumes nothing.
 use mathlib.Core.Path.{_≡_, refl, sym, ap, _∙_, subst}
-use Prim.Native.Nat.{ℕ, zero, suc, _+_, _-_, _*_, _^_, _≤_, _<_, min}
+use Prim.Native.Nat.{ℕ, _+_, _-_, _*_, _^_, _≤_, _<_, min}
 use native.Mathlib.Decide.{decLe, decLt}
 use native.Mathlib.Omega.{arith}
 use mathlib.Core.Bool.{false}
-use mathlib.Core.List.{List, _++_}
-use lib.ListN.{length, take, drop, getD}
+use mathlib.Core.List.{List}
+use lib.ListN.{length, getD}
 use lib.Seq.{ext-getD}
 use Rattle.scope.specs.Base.{part}
 use Rattle.scope.specs.Words.{longest, shares, headBelow, heads, first, need}
 use Rattle.scope.specs.Lookup.{packed, wordIn, firstPart, tableOf}
 use Rattle.laws.proofs.Lists.{part-length}
-use Rattle.laws.proofs.Heads.{none-at-longest, first-head, no-head, no-head-short, first-small, heads-first}
+use Rattle.laws.proofs.Heads.{none-at-longest, first-head, no-head, no-head-short, first-small}
 use Rattle.laws.proofs.Table.{need-short, need-long, table-length, table-short, table-first, table-second}
-use Rattle.words.specs.Weigh.{firstsOf}
-use Rattle.words.proofs.Walking.{firsts-at}
 use Rattle.builder.specs.Slots.{Filled, Ready, Slotted}
-
--- the first word of 12 bits is how many slots lead to the second part
-pub twelve : (ls f : List ℕ) → f ≡ firstsOf ls → getD f 12 0 ≡ first ls 12
-twelve ls f e = ap (λ (x : List ℕ). getD x 12 0) e ∙ firsts-at ls 12 (omega arith) (omega arith)
 
 module _ (ls : List ℕ) (n : ℕ) (ok : Ready ls (longest ls) n) where
   -- they lie within the table

@@ -1,15 +1,14 @@
 -- The Rust's 32-bit running end, which starts at all ones and wraps, against the counting definition (document 01, "Words and
 -- lookup": "keep that"). Assumes nothing.
-use mathlib.Core.Path.{_≡_, refl, sym, ap, _∙_}
+use mathlib.Core.Path.{_≡_, refl, ap, _∙_}
 use mathlib.Core.Logic.{_↔_}
-use Prim.Native.Nat.{ℕ, zero, suc, _+_, _-_, _*_, _/_, _%_, _^_, _≤_, _<_}
+use Prim.Native.Nat.{ℕ, zero, suc, _+_, _-_, _%_, _^_, _≤_, _<_}
 use native.Mathlib.Nat.{sub-zero}
-use native.Mathlib.Decide.{ℕ-discrete}
 use native.Mathlib.Omega.{arith}
 use mathlib.Core.List.{List}
 use lib.Arith.{sub-sub-self}
 use lib.ListN.{length}
-use Rattle.scope.specs.Base.{halfUp, count}
+use Rattle.scope.specs.Base.{count}
 use Rattle.scope.specs.Words.{longest, shares, startDown, first}
 use Rattle.laws.specs.Tiers.{end, running, summed}
 use Rattle.laws.proofs.Counts.{count-le, longest-count}
@@ -75,3 +74,8 @@ accumulator-fits ls few k = (there, back)
 
     back : ((l : ℕ) → 0 < l → l ≤ longest ls → summed ls (longest ls - l) < 2 ^ l) → shares ls ≤ 262144
     back t = tiers-fit ls k .1 (λ l z h. omega (arith, t l z h, summed-length ls few (omega arith) l h))
+
+-- "its first sum wraps to the count less one"
+pub first-sum : (ls : List ℕ) → length ls ≤ 16384 → 0 < longest ls → suc (summed ls 0) ≡ count (longest ls) ls
+unfolding startDown
+first-sum ls few some = summed-end ls few some 0 ∙ rw (sub-zero (longest ls)) (omega arith)

@@ -1,14 +1,12 @@
 -- Laws of chains of words (document 01, demand 3): a chain of n words is the only one, and it is what reading word after word
 -- gives; where the reading is stuck there is none. p is a bit position. Assumes nothing.
-use mathlib.Core.Path.{fun-ext, _≡_, refl, sym, ap, ap₂, _∙_, subst}
+use mathlib.Core.Path.{fun-ext, _≡_, refl, sym, ap, _∙_, subst}
 use mathlib.Core.Logic.{_↔_}
-use Prim.Native.Nat.{ℕ, zero, suc, _+_, _-_, _*_, _≤_, _<_}
-use native.Mathlib.Numerals.{add-one}
+use Prim.Native.Nat.{ℕ, zero, suc, _+_, _-_}
 use native.Mathlib.Omega.{arith}
-use mathlib.Core.List.{List, [], _∷_, _++_}
-use lib.ListN.{length, take, set}
-use lib.Seq.{take-suc-set, append-snoc}
-use Rattle.scope.specs.Words.{lengthOf, wordAt, Chain, symbols, stuckAt, _before_, onWord, chainBy, chain, Begins, Spells}
+use mathlib.Core.List.{List, [], _∷_}
+use lib.ListN.{length}
+use Rattle.scope.specs.Words.{lengthOf, wordAt, Chain, symbols, stuckAt, _before_, onWord, chainBy, chain, Spells}
 use Rattle.scope.specs.declared.Found.{Found}
 use Rattle.scope.specs.declared.Found.the-variants.{Word, NoWord}
 use Rattle.laws.proofs.Words.{word-found, found-begins}
@@ -24,17 +22,11 @@ chain-same look look′ h (suc n) p =
     ∙ ap (onWord (look′ p) p)
     (fun-ext (λ l. fun-ext (λ s. ap (λ (c : Chain). s before c) (chain-same look look′ h n (p + l)))))
 
-no-symbols : (q : ℕ) (ss : List ℕ) → stuckAt q ≡ symbols ss → ⊥
+-- a chain that is stuck has no symbols
+pub no-symbols : (q : ℕ) (ss : List ℕ) → stuckAt q ≡ symbols ss → ⊥
 no-symbols q ss e =
     let z : _≡_ {A = ℕ} 0 1 = cc in
     omega arith
-
-before-stuck : (s : ℕ) (c : Chain) (q : ℕ) → s before c ≡ stuckAt q → c ≡ stuckAt q
-unfolding _before_
-before-stuck s (symbols ss) q e =
-    let z : _≡_ {A = ℕ} 0 1 = cc in
-    absurd (omega arith)
-before-stuck s (stuckAt x) q e = e
 
 before-symbols : (s : ℕ) (c : Chain) (ss : List ℕ) → s before c ≡ symbols ss → (ts : List ℕ) × ((c ≡ symbols ts) × (s ∷ ts ≡ ss))
 unfolding _before_

@@ -1,9 +1,8 @@
 -- Laws of counting in a list, and of the longest length (document 01, "Words and lookup"). Assumes nothing.
-use mathlib.Core.Path.{_≡_, refl, sym, ap, _∙_, subst}
+use mathlib.Core.Path.{_≡_, refl, ap, subst}
 use mathlib.Core.Logic.{_≢_, _⊎_, inl, inr}
 use Prim.Native.Nat.{ℕ, zero, suc, _+_, _-_, _≤_, _<_, max, suc-le-suc}
 use native.Mathlib.Nat.{not-suc-le-zero, le-of-suc-le-suc, zero-lt-suc}
-use native.Mathlib.Numerals.{add-one}
 use native.Mathlib.Decide.{decLt}
 use native.Mathlib.Omega.{arith}
 use mathlib.Core.List.{List, [], _∷_}
@@ -19,7 +18,8 @@ pub which : (b : Bool) → (b ≡ true) ⊎ (b ≡ false)
 which true = inl refl
 which false = inr refl
 
-one-le : (b : Bool) → one b ≤ 1
+-- a test counts at most once
+pub one-le : (b : Bool) → one b ≤ 1
 one-le true = omega arith
 one-le false = omega arith
 

@@ -1,23 +1,23 @@
 -- The first twelve bits of the words longer than 12 are the numbers 0 to first(12) − 1, and so S = first(12): where the
 -- sub-tables stand, and how many there are (document 01, "Words and lookup", a plane's need). Assumes nothing.
 use mathlib.Core.Path.{_≡_, refl, sym, ap, _∙_, subst}
-use mathlib.Core.Logic.{_⊎_, inl, inr, _↔_}
+use mathlib.Core.Logic.{_⊎_, inl, inr}
 use Prim.Native.Nat.{ℕ, zero, suc, _+_, _-_, _*_, _/_, _^_, _≤_, _<_, min}
 use native.Mathlib.Nat.{add-suc, suc-add, pow-suc, div-div-eq-div-mul, not-suc-le-zero, le-refl, le-trans, mul-div-cancel, not-le-of-lt, mul-le-mul}
 use native.Mathlib.Numerals.{add-one}
 use native.Mathlib.Omega.{arith}
 use native.Mathlib.Decide.{decLe}
 use mathlib.Core.List.{List}
-use mathlib.Core.Bool.{Bool, true, false, cond, _&&_, _||_, true≢false}
+use mathlib.Core.Bool.{Bool, true, false, cond, _||_, true≢false}
 use lib.ListN.{length}
 use lib.Dec.{eqb, ltb, leb}
 use lib.Pow.{pow-mono, pow-pos}
-use borrow.Author.Tests.{eq-eqb, ne-eqb, lt-ltb, le-ltb, le-leb, lt-leb, ltb-true, eqb-true, leb-true}
+use borrow.Author.Tests.{eq-eqb, lt-ltb, le-ltb, le-leb, ltb-true, eqb-true, leb-true}
 use Rattle.scope.specs.Base.{halfUp, one, count, sumBelow}
 use Rattle.scope.specs.Words.{longest, startDown, first, wordOf, lengthOf, shares, isHead, headBelow, heads, need, needFrom}
 use Rattle.laws.specs.Tiers.{end}
-use Rattle.laws.proofs.Counts.{which, at-most-longest}
-use Rattle.laws.proofs.Words.{both, Has, has, before-shorter, first-le-word, word-lt-end}
+use Rattle.laws.proofs.Counts.{which, one-le, at-most-longest}
+use Rattle.laws.proofs.Words.{both, Has, has, before-shorter, word-lt-end}
 use Rattle.laws.proofs.Kraft.{end-fits}
 
 -- ---- a number before the first word of a length begins some longer word
@@ -108,6 +108,7 @@ pub record Heads (ls : List ℕ) (x : ℕ) : Type 0 where
   pub long : 12 < lengthOf ls symbol
   pub is : wordOf ls symbol / 2 ^ (lengthOf ls symbol - 12) ≡ x
 
+-- the symbol whose word a head begins
 pub head-elim : (ls : List ℕ) (x n : ℕ) → n ≤ length ls → headBelow ls x n ≡ true → Heads ls x
 unfolding headBelow isHead
 head-elim ls x zero k e = absurd (true≢false (sym e))
@@ -140,6 +141,7 @@ first-head ls x h a =
     head-yes ls x (length ls) s (t .has-word .inside) (omega arith)
     (ap (λ (k : ℕ). wordOf ls s / 2 ^ k) f ∙ ap (λ (k : ℕ). k / 2 ^ suc (t .more)) (t .has-word .is) ∙ t .heads-it)
 
+-- and no number from first(12) on is one
 pub no-head : (ls : List ℕ) (x : ℕ) → 12 < longest ls → first ls 12 ≤ x → headBelow ls x (length ls) ≡ false
 no-head ls x h a = elim (which (headBelow ls x (length ls))) [
   | inl e ↦ absurd (not-le-of-lt (heads-below ls x (head-elim ls x (length ls) (le-refl (length ls)) e) h) a)
@@ -196,10 +198,6 @@ need-first ls k f s h = go (decLe (longest ls) 12)
 -- no second part has more than 2^18 slots
 pub second-small : (m s : ℕ) → m ≤ 18 → s ≤ 4096 → s * 2 ^ (m - 12) ≤ 262144
 second-small m s k f = mul-le-mul f (pow-mono {i = m - 12} {j = 6} (omega arith))
-
-one-le : (b : Bool) → one b ≤ 1
-one-le true = omega arith
-one-le false = omega arith
 
 sum-le : (f : ℕ → Bool) (n : ℕ) → sumBelow n (λ x. one (f x)) ≤ n
 unfolding sumBelow

@@ -2,18 +2,18 @@
 -- (document 01, "Words and lookup", refusal 10). Over the length, and over any number of lengths. Assumes nothing.
 use mathlib.Core.Path.{_≡_, refl, sym, ap, _∙_}
 use mathlib.Core.Logic.{_↔_}
-use Prim.Native.Nat.{ℕ, zero, suc, _+_, _-_, _*_, _/_, _^_, _≤_, _<_}
+use Prim.Native.Nat.{ℕ, zero, suc, _+_, _-_, _*_, _^_, _≤_, _<_}
 use native.Mathlib.Nat.{add-mul, mul-assoc, pow-succ', mul-le-mul-right, not-suc-le-zero, le-of-eq, lt-of-mul-lt-mul-right, le-of-suc-le-suc, not-le-of-lt, lt-of-lt-of-le}
 use native.Mathlib.Numerals.{add-one}
 use native.Mathlib.Omega.{arith}
 use native.Mathlib.Decide.{decLe}
 use mathlib.Core.List.{List, [], _∷_}
-use mathlib.Core.Bool.{Bool, true, false, cond}
+use mathlib.Core.Bool.{true, false, cond}
 use lib.ListN.{length}
-use lib.Dec.{eqb, ltb}
+use lib.Dec.{ltb}
 use lib.Pow.{pow-pos, pow-add}
 use borrow.Author.Tests.{eq-eqb, ne-eqb, lt-ltb, le-ltb, ltb-false}
-use Rattle.scope.specs.Base.{halfUp, one, count}
+use Rattle.scope.specs.Base.{halfUp, count}
 use Rattle.scope.specs.Words.{longest, lengthOf, wordOf, share, shares, startDown, first, overfull}
 use Rattle.laws.specs.Tiers.{end}
 use Rattle.laws.proofs.Counts.{at-most-longest}
@@ -169,14 +169,17 @@ word-fits ls k f s i z = lt-of-lt-of-le (word-lt-end ls s i) (end-fits ls (lengt
 
 -- ---- refusal 10's test
 
+-- shares of at most one pass
 pub over-none : (ls : List ℕ) → shares ls ≤ 262144 → overfull ls ≡ false
 unfolding overfull
 over-none ls h = le-ltb 262144 (shares ls) h
 
+-- greater ones do not
 pub over-some : (ls : List ℕ) → 262144 < shares ls → overfull ls ≡ true
 unfolding overfull
 over-some ls h = lt-ltb 262144 (shares ls) h
 
+-- and what passes is at most one
 pub none-over : (ls : List ℕ) → overfull ls ≡ false → shares ls ≤ 262144
 unfolding overfull
 none-over ls h = ltb-false 262144 (shares ls) h
@@ -188,9 +191,11 @@ unfolding share
 share-some zero z = absurd (omega arith)
 share-some (suc l) z = pow-pos (18 - suc l)
 
+-- exactly one passes
 pub complete-passes : (ls : List ℕ) → shares ls ≡ 262144 → overfull ls ≡ false
 complete-passes ls e = over-none ls (le-of-eq e)
 
+-- one and any share more does not
 pub one-more-over : (ls : List ℕ) (l : ℕ) → shares ls ≡ 262144 → 0 < l → overfull (l ∷ ls) ≡ true
 unfolding shares
 one-more-over ls l e z = over-some (l ∷ ls) (omega (arith, share-some l z))

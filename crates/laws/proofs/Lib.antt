@@ -1,4 +1,3 @@
-pub mod Windows
 pub mod Counts
 pub mod Words
 pub mod Kraft

@@ -3,31 +3,32 @@
 -- in the middle of a longer workspace. p is a bit position. Assumes nothing.
 use mathlib.Core.Path.{_≡_, refl, sym, ap, _∙_, subst⁻¹}
 use Prim.Native.Nat.{ℕ, zero, suc, _+_, _-_, _*_, _/_, _%_, _^_, _≤_, _<_}
-use native.Mathlib.Nat.{le-refl, le-trans, not-le-of-lt, le-of-eq, div-lt-iff-lt-mul, sub-zero}
+use native.Mathlib.Nat.{le-refl, le-trans, not-le-of-lt, le-of-eq, div-lt-iff-lt-mul}
 use native.Mathlib.Omega.{arith}
 use native.Mathlib.Decide.{decLe}
 use mathlib.Core.Logic.{inl, inr}
-use mathlib.Core.List.{List, [], _∷_, _++_, append-nil}
-use mathlib.Core.Bool.{Bool, true, false, cond, _&&_, true≢false}
-use lib.ListN.{length, take, drop, getD, length-append, List·getD-append, take-append-drop}
-use lib.Seq.{getD-append-add, take-take}
-use lib.Dec.{eqb, ltb, leb}
+use mathlib.Core.List.{List, [], _++_, append-nil}
+use mathlib.Core.Bool.{true, false, true≢false}
+use lib.ListN.{length, take, drop, getD, List·getD-append, take-append-drop}
+use lib.Seq.{take-take}
+use lib.Dec.{eqb}
 use lib.Pow.{pow-pos}
-use borrow.Author.Tests.{eq-eqb, ne-eqb, lt-ltb, le-ltb, le-leb, lt-leb}
-use Rattle.scope.specs.Base.{listFrom, part}
+use borrow.Author.Tests.{eq-eqb, ne-eqb, le-ltb, le-leb, lt-leb}
+use Rattle.scope.specs.Base.{part}
 use Rattle.scope.specs.Bits.{window}
 use Rattle.scope.specs.Words.{longest, first, wordOf, lengthOf, shares, headBelow, heads, need, beginsWith, wordBelow, wordAt, Begins}
-use Rattle.scope.specs.Lookup.{packed, unpacked, beginsIn, wordIn, firstPart, slots, tableOf, lookupIn}
+use Rattle.scope.specs.Lookup.{packed, unpacked, beginsIn, wordIn, firstPart, tableOf, lookupIn}
 use Rattle.scope.specs.declared.Found.{Found}
 use Rattle.scope.specs.declared.Found.the-variants.{Word, NoWord}
 use Rattle.laws.proofs.Counts.{which, at-most-longest}
-use Rattle.laws.proofs.Windows.{window-small, window-head}
+use Rattle.bits.proofs.Windows.{window-small, window-head}
 use Rattle.laws.proofs.Words.{begins-of-test, FoundIn, found-in}
 use Rattle.laws.proofs.Heads.{head-yes, no-head, no-head-short, heads-first}
 use Rattle.laws.proofs.Table.{need-short, need-long, table-length, table-short, table-first, table-second}
 
 -- ---- what a workspace word says
 
+-- a word that is packed is unpacked again
 pub unpacked-packed : (o : Found) → ((l s : ℕ) → o ≡ Word l s → (0 < l) × (l < 255)) → unpacked (packed o) ≡ o
 unfolding unpacked packed
 unpacked-packed NoWord h = refl

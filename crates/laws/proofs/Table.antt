@@ -1,22 +1,19 @@
 -- The table, slot by slot (document 01, "Words and lookup": "the statement fixes the words within it"): as long as the need, a
 -- first part whose slots have the first twelve bits of the longest length, and a second part whose slots have all of it.
 -- Assumes nothing.
-use mathlib.Core.Path.{_≡_, refl, sym, ap, ap₂, _∙_, subst}
-use mathlib.Core.Logic.{inl, inr}
-use Prim.Native.Nat.{ℕ, zero, suc, _+_, _-_, _*_, _/_, _^_, _≤_, _<_, min}
-use native.Mathlib.Nat.{le-refl, le-trans, le-of-eq}
+use mathlib.Core.Path.{_≡_, refl, sym, ap, ap₂, _∙_}
+use Prim.Native.Nat.{ℕ, zero, suc, _+_, _-_, _*_, _/_, _^_, _≤_, _<_}
 use native.Mathlib.Decide.{ℕ-discrete, decLe, decLt}
 use native.Mathlib.Omega.{arith}
-use mathlib.Core.List.{List, [], _∷_, _++_}
-use mathlib.Core.Bool.{Bool, true, false, cond, _&&_}
+use mathlib.Core.List.{List, _++_}
+use mathlib.Core.Bool.{cond, _&&_}
 use lib.Dec.{eqb, ltb, leb}
 use lib.ListN.{length, getD, length-append, List·getD-append}
-use lib.Seq.{getD-append-add, ext-getD}
+use lib.Seq.{getD-append-add}
 use borrow.Author.Tests.{eq-eqb, ne-eqb, lt-ltb, le-ltb, le-leb, lt-leb}
 use Rattle.scope.specs.Base.{listFrom, listBelow}
-use Rattle.scope.specs.Words.{longest, lengthOf, wordOf, headBelow, heads, need, needFrom}
+use Rattle.scope.specs.Words.{longest, lengthOf, wordOf, heads, need, needFrom}
 use Rattle.scope.specs.Lookup.{packed, beginsIn, wordIn, firstPart, slots, tableOf}
-use Rattle.scope.specs.declared.Found.{Found}
 use Rattle.scope.specs.declared.Found.the-variants.{Word, NoWord}
 use Rattle.laws.proofs.Counts.{at-most-longest}
 use Rattle.laws.proofs.Lists.{length-listFrom, getD-below}
@@ -61,6 +58,7 @@ need-short ls h = go (ℕ-discrete (longest ls) 0)
     go (yes e) = rw e
     go (no e) = simp (ne-eqb (longest ls) 0 e, le-leb (longest ls) 12 h)
 
+-- where some word is longer than 12
 pub need-long : (ls : List ℕ) → 12 < longest ls → need ls ≡ 4096 + heads ls * 2 ^ (longest ls - 12)
 unfolding need needFrom
 need-long ls h =
@@ -115,6 +113,7 @@ table-first ls i h b =
     ∙ List·getD-append (listFrom (firstPart ls 12) 0 4096) (slots ls (longest ls) (heads ls * 2 ^ (longest ls - 12))) 0 i l
     ∙ getD-below (firstPart ls 12) 4096 i b
 
+-- a slot of the second part
 pub table-second : (ls : List ℕ) (i : ℕ) → 12 < longest ls → i < heads ls * 2 ^ (longest ls - 12)
     → getD (tableOf ls) (4096 + i) 0 ≡ packed (wordIn ls (longest ls) i (length ls))
 unfolding slots

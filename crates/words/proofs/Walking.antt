@@ -1,19 +1,19 @@
 -- The walk from the longest length down to 1, with the running end that starts at all ones and wraps (document 01, "Words and
 -- lookup": "keep that"), against the counting definition of `laws`. Assumes nothing.
 use mathlib.Core.Path.{_≡_, refl, sym, ap, _∙_}
-use Prim.Native.Nat.{ℕ, zero, suc, _+_, _-_, _*_, _/_, _%_, _^_, _≤_, _<_}
+use Prim.Native.Nat.{ℕ, zero, suc, _+_, _-_, _/_, _%_, _^_, _≤_, _<_}
 use native.Mathlib.Nat.{sub-self}
 use native.Mathlib.Decide.{ℕ-discrete, decLe}
 use native.Mathlib.Omega.{arith}
-use mathlib.Core.List.{List, [], _∷_}
+use mathlib.Core.List.{List, _∷_}
 use mathlib.Core.Bool.{Bool, true, false, not}
 use lib.Arith.{sub-sub-self}
-use lib.ListN.{length, getD, set, length-set, replicate, getD-replicate}
+use lib.ListN.{length, getD, set, length-set, replicate}
 use lib.Seq.{getD-set-same, getD-set-other, ext-getD}
-use Rattle.scope.specs.Base.{count, listFrom, listBelow}
-use Rattle.scope.specs.Words.{longest, shares, overfull, startDown, first}
+use Rattle.scope.specs.Base.{count, listFrom}
+use Rattle.scope.specs.Words.{longest, shares, overfull, first}
 use Rattle.laws.specs.Tiers.{running, summed}
-use Rattle.laws.proofs.Lists.{getD-below, getD-from, length-listFrom}
+use Rattle.laws.proofs.Lists.{getD-from, length-listFrom}
 use Rattle.laws.proofs.Heads.{none-at-longest}
 use Rattle.laws.proofs.Kraft.{over-none, over-some}
 use Rattle.laws.proofs.Accumulator.{running-start, accumulator-fits}
@@ -26,6 +26,10 @@ pub firsts-at : (ls : List ℕ) (l : ℕ) → 0 < l → l ≤ 18 → getD (first
 unfolding firstsOf
 firsts-at ls zero z h = absurd (omega arith)
 firsts-at ls (suc l) z h = getD-from (first ls) 1 18 l (omega arith) ∙ ap (first ls) (omega arith)
+
+-- the first word of 12 bits
+pub firsts-twelve : (ls at : List ℕ) → at ≡ firstsOf ls → getD at 12 0 ≡ first ls 12
+firsts-twelve ls at e = ap (λ (x : List ℕ). getD x 12 0) e ∙ firsts-at ls 12 (omega arith) (omega arith)
 
 firsts-only : (ls at : List ℕ) → length at ≡ 19 → getD at 0 0 ≡ 0 → ((l : ℕ) → 0 < l → getD at l 0 ≡ first ls l) → at ≡ firstsOf ls
 unfolding firstsOf
@@ -53,6 +57,7 @@ zero-at z zero j = refl
 zero-at z (suc n) zero = refl
 zero-at z (suc n) (suc j) = zero-at z n j
 
+-- before the longest length nothing is written, and the running end is all ones
 pub walk-start : (ls : List ℕ) (m : ℕ) → m ≡ longest ls → Walked ls (replicate 19 0) 4294967295 m
 unfolding running
 walk-start ls m e = record {
@@ -90,6 +95,7 @@ module _ (ls at : List ℕ) (a l n s : ℕ) (few : length ls ≤ 16384) (k : lon
       let e : longest ls - (l - 1) ≡ suc (longest ls - l) = omega (arith, w .within) in
       ap (λ (x : ℕ). x / 2) sum-is ∙ sym (ap (running ls) e)
 
+  -- one length is passed
   pub walk-step : (r : ℕ) → r ≡ (a + 1) % 2 ^ 32 → s < 2 ^ l → Walked ls (set at l r) (s / 2) (l - 1)
   walk-step r er t = record {
     within = omega (arith, w .within);
@@ -110,9 +116,11 @@ module _ (ls at : List ℕ) (a l n s : ℕ) (few : length ls ≤ 16384) (k : lon
 
 -- no sum reaches its power of two: no refusal 10, and the first word of each length
 module _ (ls at : List ℕ) (a l : ℕ) (few : length ls ≤ 16384) (k : longest ls ≤ 18) (w : Walked ls at a l) (e : l ≡ 0) where
+  -- no refusal 10
   pub walk-fits : overfull ls ≡ false
   walk-fits = over-none ls (accumulator-fits ls few k .1 (λ j z h. w .passed j (omega arith) h))
 
+  -- the first word of each length is written
   pub walk-firsts : at ≡ firstsOf ls
   walk-firsts = firsts-only ls at (w .many) (w .blank 0 (omega arith)) (λ j h. w .written j (omega arith))
 

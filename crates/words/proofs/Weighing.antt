@@ -1,17 +1,15 @@
 -- What the lengths of one plane get, case by case, and what a need says of them (document 01, refusals 9 and 10, and the need).
 -- Assumes nothing.
-use mathlib.Core.Path.{_≡_, refl, sym, ap, ap₂, _∙_, subst⁻¹}
+use mathlib.Core.Path.{_≡_, refl, sym, ap, _∙_}
 use mathlib.Core.Logic.{inl, inr}
-use Prim.Native.Nat.{ℕ, zero, suc, _+_, _-_, _*_, _/_, _%_, _^_, _≤_, _<_}
-use native.Mathlib.Nat.{mul-le-mul}
+use Prim.Native.Nat.{ℕ, _-_, _*_, _%_, _^_, _≤_, _<_}
 use native.Mathlib.Decide.{decLe}
 use native.Mathlib.Omega.{arith}
 use mathlib.Core.List.{List}
-use mathlib.Core.Bool.{Bool, true, false, cond, not}
-use lib.ListN.{length, getD}
+use mathlib.Core.Bool.{Bool, true, false, not}
+use lib.ListN.{getD}
 use borrow.Author.Tests.{lt-ltb, le-ltb, ltb-false, not-true, not-false}
 use Rattle.scope.specs.Words.{longest, shares, overfull, tooLong, first, need, needFrom}
-use Rattle.scope.specs.Refusals.{refuseIf, _andThen_}
 use Rattle.scope.specs.Geometry.{lengthsOf}
 use Rattle.scope.specs.Frame.{lengthCheck}
 use Rattle.scope.specs.declared.Geometry.{Geometry}
@@ -21,18 +19,19 @@ use Rattle.laws.proofs.Counts.{which}
 use Rattle.laws.proofs.Shifts.{shl-one}
 use Rattle.laws.proofs.Heads.{need-first, need-small, first-small, second-small, none-at-longest}
 use Rattle.laws.proofs.Kraft.{none-over}
-use Rattle.words.specs.Weigh.{firstsOf, weighed, answerOf, needOf}
-use Rattle.words.specs.declared.Weighed.{Weighed}
+use Rattle.words.specs.Weigh.{firstsOf, weighed, answerOf}
 use Rattle.words.specs.declared.Weighed.the-variants.{Need, Refused}
-use Rattle.words.proofs.Walking.{firsts-at}
+use Rattle.words.proofs.Walking.{firsts-twelve}
 
 -- ---- `need_from`
 
 -- the second part's size
 module _ (m s : ℕ) (k : m ≤ 18) (f : s ≤ 4096) where
+  -- the shift is exact
   pub second-exact : s * (1 * 2 ^ (m - 12) % 2 ^ 64) ≡ s * 2 ^ (m - 12)
   second-exact = ap (λ (x : ℕ). s * x) (shl-one 64 (m - 12) (omega arith))
 
+  -- and the product fits
   pub second-fits : s * (1 * 2 ^ (m - 12) % 2 ^ 64) ≤ 262144
   second-fits = rw second-exact (second-small m s k f)
 
@@ -49,30 +48,32 @@ twelve-small ls k f = elim (decLe (longest ls) 12) [
 pub test-bad : (fits over : Bool) → fits ≡ not over → not fits ≡ true → over ≡ true
 test-bad fits over e a = not-false over (sym e ∙ not-true fits a)
 
+-- where it passes
 pub test-good : (fits over : Bool) → fits ≡ not over → not fits ≡ false → (fits ≡ true) × (over ≡ false)
 test-good fits over e a = (not-false fits a, not-true over (sym e ∙ not-false fits a))
 
 module _ (ls : List ℕ) (plane : ℕ) where
+  -- a length above 18
   pub weighed-9 : 18 < longest ls → Refused 9 (Plane plane) ≡ weighed ls plane
   unfolding weighed tooLong
   weighed-9 a = sym (simp (lt-ltb _ _ a))
 
+  -- shares that exceed one
   pub weighed-10 : longest ls ≤ 18 → overfull ls ≡ true → Refused 10 (Plane plane) ≡ weighed ls plane
   unfolding weighed tooLong
   weighed-10 a b = sym (simp (le-ltb _ _ a, b))
 
   -- the need, from what `first_words` gives
   module _ (at : List ℕ) (k : longest ls ≤ 18) (over : overfull ls ≡ false) (is : at ≡ firstsOf ls) where
-    twelve : getD at 12 0 ≡ first ls 12
-    twelve = ap (λ (x : List ℕ). getD x 12 0) is ∙ firsts-at ls 12 (omega arith) (omega arith)
-
+    -- what `need_from` asks
     pub twelve-fits : getD at 12 0 ≤ 4096
-    twelve-fits = omega (arith, twelve, twelve-small ls k (none-over ls over))
+    twelve-fits = omega (arith, firsts-twelve ls at is, twelve-small ls k (none-over ls over))
 
+    -- the need
     pub weighed-need : (m n : ℕ) → m ≡ longest ls → n ≡ needFrom m (getD at 12 0) → Need n ≡ weighed ls plane
     unfolding weighed tooLong
     weighed-need m n e f =
-        ap Need (f ∙ ap (λ (x : ℕ). needFrom x (getD at 12 0)) e ∙ need-first ls k (none-over ls over) (getD at 12 0) (λ h. twelve))
+        ap Need (f ∙ ap (λ (x : ℕ). needFrom x (getD at 12 0)) e ∙ need-first ls k (none-over ls over) (getD at 12 0) (λ h. firsts-twelve ls at is))
         ∙ sym (simp (le-ltb _ _ k, over))
 
 -- ---- what the cases say

@@ -1,5 +1,5 @@
 -- `build_part` writes a plane's table into its stretch of the workspace (document 01, "Words and lookup").
-use mathlib.Core.Path.{_≡_, ap}
+use mathlib.Core.Path.{ap}
 use mathlib.Core.List.{List}
 use Prim.Native.Nat.{_-_}
 use borrow.Author.Needs.{needs}

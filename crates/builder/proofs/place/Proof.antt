@@ -1,10 +1,9 @@
 -- `place` writes every symbol's word, in one pass over the lengths (document 01, "Words and lookup").
-use mathlib.Core.Path.{_≡_, refl, sym, subst⁻¹, subst₂}
+use mathlib.Core.Path.{sym, subst⁻¹, subst₂}
 use mathlib.Core.Logic.{⊎-elim}
 use mathlib.Core.List.{List}
 use Prim.Native.Nat.{ℕ, _≤_, _<_, _-_, _+_}
 use native.Mathlib.Omega.{arith}
-use borrow.Author.Needs.{needs}
 use lib.ListN.{length, getD}
 use Rattle.builder.specs.Slots.{Row}
 use Rattle.builder.proofs.Placing.{Placed, placed-start, placed-skip, placed-put, placed-end, placed-row, word-small, length-small}

@@ -1,5 +1,5 @@
 -- `put` writes one symbol's row of slots (document 01, "Words and lookup").
-use mathlib.Core.Path.{_≡_, subst₂}
+use mathlib.Core.Path.{subst₂}
 use Prim.Native.Nat.{ℕ, _+_, _*_}
 use native.Mathlib.Omega.{arith}
 use borrow.Author.Needs.{needs}

@@ -1,5 +1,5 @@
 -- `slot_base` says where the part begins in which a word stands.
-use mathlib.Core.Path.{_≡_, sym}
+use mathlib.Core.Path.{sym}
 use Rattle.builder.proofs.Filling.{base-first, base-second}
 use Rattle.builder.proofs.slot_base.Statement.{statement}
 use Rattle.builder.proofs.slot_base.Tie as tie

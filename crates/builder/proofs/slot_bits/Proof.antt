@@ -1,5 +1,5 @@
 -- `slot_bits` says how many bits the slots have in which a word stands.
-use mathlib.Core.Path.{_≡_, sym, _∙_}
+use mathlib.Core.Path.{sym}
 use native.Mathlib.Omega.{arith}
 use Rattle.builder.proofs.Filling.{bits-first, bits-second}
 use Rattle.builder.proofs.slot_bits.Statement.{statement}

@@ -1,9 +1,10 @@
 -- `write_table` leaves the table in exactly the words that it needs (document 01, "Words and lookup").
-use mathlib.Core.Path.{_≡_, _∙_}
+use mathlib.Core.Path.{_∙_}
 use native.Mathlib.Omega.{arith}
 use borrow.Author.Needs.{needs}
 use lib.ListN.{length}
-use Rattle.builder.proofs.Written.{twelve, heads-room, written}
+use Rattle.words.proofs.Walking.{firsts-twelve}
+use Rattle.builder.proofs.Written.{heads-room, written}
 use Rattle.builder.proofs.write_table.Statement.{statement}
 use Rattle.builder.proofs.write_table.Tie as tie
 
@@ -28,7 +29,7 @@ fill-requires c κs =
     let ls = s .args .lengths .now in
     omega (
       arith,
-      twelve ls _ (c .before .before .before .before .before .firsts .ensures),
+      firsts-twelve ls _ (c .before .before .before .before .before .firsts .ensures),
       heads-room ls (length (s .args .ws .now)) (s .pre),
       c .before .before .before .place .kept,
     )
@@ -43,7 +44,7 @@ returns c =
     let p = c .before .before .before .before .before .before .place in
     let f = c .before .before .fill in
     written ls (length (s .args .ws .now)) (s .pre) _ (p .last .1 .1 .1 .0) (f .last .0)
-    (twelve ls _ (c .before .before .before .before .before .before .before .before .firsts .ensures)) (f .ensures) (p .ensures)
+    (firsts-twelve ls _ (c .before .before .before .before .before .before .before .before .firsts .ensures)) (f .ensures) (p .ensures)
     (f .kept .0 ∙ p .kept .1 .1 .1 .0)
 
 pub write-table-spec : {M : Type 1} → statement M

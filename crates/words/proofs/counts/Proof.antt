@@ -1,5 +1,4 @@
 -- `counts` gives how many symbols have each length (document 01, "Words and lookup").
-use mathlib.Core.Path.{_≡_}
 use Prim.Native.Nat.{_≤_, _-_}
 use native.Mathlib.Omega.{arith}
 use lib.ListN.{length, getD}

@@ -1,10 +1,9 @@
 -- `first_words` walks from the longest length down with the running end that wraps (document 01, "Words and lookup").
 use mathlib.Core.Path.{_≡_, sym, ap}
 use mathlib.Core.Bool.{true, not, true≢false}
-use Prim.Native.Nat.{ℕ, _≤_, _<_}
+use Prim.Native.Nat.{_≤_}
 use native.Mathlib.Omega.{arith}
 use borrow.Author.Needs.{needs}
-use lib.ListN.{getD}
 use Rattle.scope.specs.Base.{count}
 use Rattle.scope.specs.Words.{overfull}
 use Rattle.laws.proofs.Shifts.{shl-one}

@@ -1,0 +1,4 @@
+pub mod Looking
+pub mod Reading
+pub mod Chains
+pub mod Once

@@ -1,0 +1,4 @@
+pub mod Building
+pub mod Reading
+pub mod Demand
+pub mod Once

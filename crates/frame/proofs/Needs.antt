@@ -25,7 +25,7 @@ use Rattle.words.specs.declared.Weighed.{Weighed}
 use Rattle.words.specs.declared.Weighed.the-variants.{Need, Refused}
 use Rattle.words.proofs.Weighing.{Passes, need-passes, need-is, weighed-check}
 use Rattle.figures.proofs.Places.{planes-most}
-use Rattle.layout.proofs.InOrder.{none-yet, one-passed, one-refused}
+use Rattle.figures.proofs.InOrder.{none-yet, one-passed, one-refused}
 use Rattle.slices.proofs.Parts.{part-is}
 use Rattle.frame.specs.Words as wrd
 use Rattle.frame.specs.Words.{orNeed, lengthsWeighed}

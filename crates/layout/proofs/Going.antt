@@ -19,7 +19,7 @@ use Rattle.scope.specs.declared.Place.{Place}
 use Rattle.scope.specs.declared.Answer.{Answer}
 use Rattle.scope.specs.declared.Answer.the-variants.{Done, Refused}
 use Rattle.figures.proofs.Places.{planes-most, slices-most}
-use Rattle.layout.proofs.InOrder.{none-yet, one-passed, one-refused, each-passed}
+use Rattle.figures.proofs.InOrder.{none-yet, one-passed, one-refused, each-passed}
 use Rattle.layout.proofs.Slices.{Counted, counted-start, counted-more, index-below, index-room}
 
 pub record Going (f : ℕ → Answer) (frame : List ℕ) (g : Geometry) (t : ℕ) (seen : List ℕ) (s : ℕ) : Type 0 where

@@ -24,7 +24,7 @@ use Rattle.scope.specs.declared.Place.the-variants.{Slice}
 use Rattle.scope.specs.declared.Answer.{Answer}
 use Rattle.scope.specs.declared.Answer.the-variants.{Done, Refused}
 use Rattle.figures.proofs.Counts.{all-full, sum-one-more, sum-none}
-use Rattle.layout.proofs.InOrder.{none-yet, one-passed, one-refused, each-passed}
+use Rattle.figures.proofs.InOrder.{none-yet, one-passed, one-refused, each-passed}
 use Rattle.figures.proofs.Places.{planes-most}
 
 -- the array of counts
@@ -99,17 +99,18 @@ module _ (frame : List ℕ) (g : Geometry) where
       go p h (no e) =
           rw (getD-set-other seen q p (getD seen q 0 + 1) 0 e, add-one s, named-other p s (rw eq at e)) (c .counts p h)
 
-zeros : (p : ℕ) → _≡_ {A = ℕ} (getD (0 ∷ 0 ∷ 0 ∷ 0 ∷ []) p 0) 0
-zeros zero = refl
-zeros (suc zero) = refl
-zeros (suc (suc zero)) = refl
-zeros (suc (suc (suc zero))) = refl
-zeros (suc (suc (suc (suc p)))) = refl
+-- four zeros, as a loop's array of counts starts
+pub four-zeros : (p : ℕ) → _≡_ {A = ℕ} (getD (0 ∷ 0 ∷ 0 ∷ 0 ∷ []) p 0) 0
+four-zeros zero = refl
+four-zeros (suc zero) = refl
+four-zeros (suc (suc zero)) = refl
+four-zeros (suc (suc (suc zero))) = refl
+four-zeros (suc (suc (suc (suc p)))) = refl
 
 module _ (frame : List ℕ) (g : Geometry) where
   -- four zeros count none
   pub counted-start : Counted frame g (0 ∷ 0 ∷ 0 ∷ 0 ∷ []) 0
-  counted-start = counted-none frame g (0 ∷ 0 ∷ 0 ∷ 0 ∷ []) refl zeros
+  counted-start = counted-none frame g (0 ∷ 0 ∷ 0 ∷ 0 ∷ []) refl four-zeros
 
   -- the byte that is read is the index
   pub index-is : (s t r : ℕ) → t ≡ sliceCount g → r ≡ getD frame (32 + 4 * (t + 1) + 1 + s) 0 → r ≡ planeIndex frame g s

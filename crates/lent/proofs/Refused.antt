@@ -20,6 +20,7 @@ use Rattle.scope.specs.declared.Place.the-variants.{Nothing}
 use Rattle.scope.specs.declared.Answer.{Answer}
 use Rattle.scope.specs.declared.Answer.the-variants.{Done, Refused}
 use Rattle.figures.specs.Sound.{Sound}
+use Rattle.figures.proofs.InOrder.{first-passed, then-passed, if-passed}
 use Rattle.figures.proofs.Figures.{product-most, few-planes}
 use Rattle.lent.specs.Steps as steps
 use Rattle.lent.specs.Steps.{shapeChecks, sizeChecks}
@@ -233,20 +234,11 @@ pub ruleset shapes = (shape-1, shape-2w, shape-2h, shape-3, shape-0, across-some
 
 -- ---- what a geometry is that passed them
 
--- a check that passed, and a chain of checks that passed
-passed : (t : Bool) (n : ℕ) (w : Place) → refuseIf (not t) n w ≡ Done → t ≡ true
-passed true n w e = refl
-passed false n w e = cc
+-- a test that refused nothing where it is false is true
+passed : (t : Bool) (n : ℕ) (w : Place) → Done ≡ refuseIf (not t) n w → t ≡ true
+passed t n w e = not-false t (if-passed (not t) n w e)
 
-first-passed : (a b : Answer) → (a andThen b) ≡ Done → a ≡ Done
-first-passed Done b e = refl
-first-passed (Refused n w) b e = e
-
-then-passed : (a b : Answer) → (a andThen b) ≡ Done → b ≡ Done
-then-passed Done b e = e
-then-passed (Refused n w) b e = cc
-
-module _ (deep : Bool) (g : Geometry) (e : shapeChecks deep g ≡ Done) where
+module _ (deep : Bool) (g : Geometry) (e : Done ≡ shapeChecks deep g) where
   one : Answer
   one = refuseIf (not (geometryFits deep g)) 1 Nothing
 
@@ -291,7 +283,7 @@ module _ (deep : Bool) (g : Geometry) (e : shapeChecks deep g ≡ Done) where
 
 -- the same as the code has it
 pub sound-told : (deep : Bool) (g : Geometry) (r : Answer) → r ≡ shapeChecks deep g → r ≡ Done → Sound g
-sound-told deep g r e h = shape-sound deep g (sym e ∙ h)
+sound-told deep g r e h = shape-sound deep g (sym h ∙ e)
 
 -- ---- refusal 4
 
@@ -346,18 +338,18 @@ module _ (deep : Bool) (g : Geometry) (lengthsLen planesLen : ℕ) where
   pub lent-late : (a b : Answer) → a ≡ shapeChecks deep g → a ≡ Done → b ≡ sizeChecks g lengthsLen planesLen → b ≡ lentChecks deep g lengthsLen planesLen
   lent-late a b e h k = rw (lent-steps, ← e, h) k
 
-  module _ (e : lentChecks deep g lengthsLen planesLen ≡ Done) where
+  module _ (e : Done ≡ lentChecks deep g lengthsLen planesLen) where
     -- what is known once none of 1 to 4 applies: the geometry is sound, and of a depth that the entry serves
     pub lent-sound : Sound g
-    lent-sound = shape-sound deep g (first-passed (shapeChecks deep g) _ (sym lent-steps ∙ e))
+    lent-sound = shape-sound deep g (first-passed (shapeChecks deep g) _ (e ∙ lent-steps))
 
     -- of a depth that the entry serves
     pub lent-depth : depthFits deep (g .depth) ≡ true
-    lent-depth = shape-depth deep g (first-passed (shapeChecks deep g) _ (sym lent-steps ∙ e))
+    lent-depth = shape-depth deep g (first-passed (shapeChecks deep g) _ (e ∙ lent-steps))
 
     sizes-passed : (eqb lengthsLen (planeCount g * 2 ^ g .depth) && eqb planesLen (allSamples g)) ≡ true
     unfolding steps.sizeChecks
-    sizes-passed = passed _ 4 Nothing (then-passed (shapeChecks deep g) _ (sym lent-steps ∙ e))
+    sizes-passed = passed _ 4 Nothing (then-passed (shapeChecks deep g) _ (e ∙ lent-steps))
 
     -- the lengths are P·2^depth
     pub lent-lengths : lengthsLen ≡ planeCount g * 2 ^ g .depth

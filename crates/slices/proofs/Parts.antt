@@ -21,6 +21,7 @@ use Rattle.scope.specs.declared.Geometry.{Geometry}
 use Rattle.figures.specs.Sound.{Sound}
 use Rattle.figures.proofs.Places.{planes-most}
 use Rattle.figures.proofs.Figures.{samples-most}
+use Rattle.layout.proofs.Slices.{four-zeros}
 use Rattle.slices.specs.Sizes.{Shortests}
 
 -- plane p's part of the lent lengths, n each
@@ -82,13 +83,6 @@ pub record Found (g : Geometry) (lengths : List ℕ) (planes : ℕ) (at : List �
   pub within : p ≤ planes
   pub few : planes ≤ 4
 
-zeros : (p : ℕ) → _≡_ {A = ℕ} (getD (0 ∷ 0 ∷ 0 ∷ 0 ∷ []) p 0) 0
-zeros zero = refl
-zeros (suc zero) = refl
-zeros (suc (suc zero)) = refl
-zeros (suc (suc (suc zero))) = refl
-zeros (suc (suc (suc (suc p)))) = refl
-
 module _ (g : Geometry) (lengths : List ℕ) (planes : ℕ) where
   -- none is found yet
   pub found-start : length lengths ≡ planeCount g * 2 ^ g .depth → planes ≡ planeCount g → Found g lengths planes (0 ∷ 0 ∷ 0 ∷ 0 ∷ []) 0
@@ -96,8 +90,8 @@ module _ (g : Geometry) (lengths : List ℕ) (planes : ℕ) where
     planes-are = ep;
     whole = el;
     made = λ q l. absurd (omega arith);
-    rest = λ q l. zeros q;
-    small = λ q. rw (zeros q) (omega arith);
+    rest = λ q l. four-zeros q;
+    small = λ q. rw (four-zeros q) (omega arith);
     four = refl;
     within = omega arith;
     few = rw ep (planes-most (g .family));

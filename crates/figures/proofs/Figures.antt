@@ -1,8 +1,8 @@
 -- What the functions on a geometry's numbers return, and that nothing runs over: the steps of src/lib.rt over plain numbers
 -- (document 01, "Layout"). Assumes nothing.
-use mathlib.Core.Path.{_≡_, refl, sym, ap, _∙_}
-use mathlib.Core.Bool.{Bool, true, false, cond, _&&_, _||_}
-use Prim.Native.Nat.{ℕ, zero, suc, _+_, _-_, _*_, _/_, _%_, _^_, _≤_, _<_, min}
+use mathlib.Core.Path.{_≡_, refl}
+use mathlib.Core.Bool.{Bool, true, false, cond}
+use Prim.Native.Nat.{ℕ, zero, suc, _+_, _-_, _*_, _%_, _^_, _≤_, _<_, min}
 use native.Mathlib.Nat.{mul-le-mul, mod-eq-of-lt, one-mul}
 use native.Mathlib.Numerals.{add-one}
 use native.Mathlib.Omega.{arith}
@@ -11,16 +11,14 @@ use mir.Val.{Fits}
 use borrow.Author.Tests.{ne-eqb}
 use borrow.Author.Needs.{needs}
 use lib.Dec.{eqb}
-use lib.Pow.{pow-mono, pow-pos, pow-lt}
+use lib.Pow.{pow-mono, pow-pos}
 use Rattle.scope.specs.Base as base
 use Rattle.scope.specs.Base.{sumBelow}
 use Rattle.scope.specs.Geometry as geo
-use Rattle.scope.specs.Geometry.{planesOf, subsampled, correlated, planeCount, slicesPerPlane, sliceCount, small, planeWidth, planeHeight, planeSliceHeight, firstRow, rowsAt, planeSamples, allSamples, swapped, orderOf, planeStart, rowStart}
-use Rattle.scope.specs.declared.Family.{Family}
+use Rattle.scope.specs.Geometry.{subsampled, correlated, planeCount, slicesPerPlane, small, planeWidth, planeHeight, planeSliceHeight, firstRow, rowsAt, planeSamples, allSamples, swapped, orderOf, planeStart, rowStart}
 use Rattle.scope.specs.declared.Geometry.{Geometry}
 use Rattle.figures.specs.Sound.{Sound}
-use Rattle.figures.proofs.Order.{Order}
-use Rattle.figures.proofs.Places.{part-some, part-most, height-fits, planes-most, planes-some, place-in, slices-most, slices-some, rows-some, order}
+use Rattle.figures.proofs.Places.{part-some, part-most, height-fits, planes-most, planes-some, place-in, order}
 
 -- ---- sides
 

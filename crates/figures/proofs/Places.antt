@@ -1,11 +1,11 @@
 -- Document 01, "Layout": the sides of a plane, its places, which are cut at its height and K of which cover it, and the planes in
 -- the buffer. Over a geometry that refusals 1 to 3 left. Assumes nothing.
 use mathlib.Core.Path.{_≡_, refl, sym, ap, _∙_}
-use mathlib.Core.Bool.{Bool, true, false, cond, _&&_, _||_}
+use mathlib.Core.Bool.{Bool, true, false, cond}
 use Prim.Native.Nat.{ℕ, zero, suc, _+_, _-_, _*_, _/_, _%_, _≤_, _<_, min}
 use native.Mathlib.Nat.{zero-mul, suc-mul, add-mul, mul-comm, mul-left-comm, mul-zero, div-add-mod, le-div-iff-mul-le, lt-div-mul-add, div-lt-iff-lt-mul, lt-of-mul-lt-mul-left, le-of-mul-le-mul-left, mul-le-mul-right, mul-le-mul, mul-le-mul-left, div-le-self}
 use native.Mathlib.Omega.{arith}
-use Rattle.scope.specs.Base.{overUp, sumBelow}
+use Rattle.scope.specs.Base.{overUp}
 use Rattle.scope.specs.Geometry as geo
 use Rattle.scope.specs.Geometry.{planesOf, subsampled, correlated, planeCount, slicesPerPlane, sliceCount, small, planeWidth, planeHeight, planeSliceHeight, firstRow, rowsAt, planeSamples, allSamples, swapped, orderOf, planeStart, rowStart}
 use Rattle.scope.specs.declared.Family.{Family}

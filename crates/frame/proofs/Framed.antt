@@ -1,15 +1,14 @@
 -- Document 01, "Refusal numbers", 5 to 14 before anything is written: the steps put together in the table's order, and what is
 -- known once none applies. Assumes nothing.
-use mathlib.Core.Path.{_≡_, refl, sym, ap, _∙_}
-use mathlib.Core.Bool.{Bool, true, false}
-use Prim.Native.Nat.{ℕ, zero, suc, _+_, _*_, _^_, _≤_, _<_}
+use mathlib.Core.Path.{_≡_, refl, sym, _∙_}
+use Prim.Native.Nat.{ℕ, _+_, _≤_, _<_}
 use mathlib.Core.List.{List}
 use borrow.Author.Tests.{lt-ltb, le-ltb, ltb-false}
 use borrow.Author.Needs.{needs}
 use lib.Dec.{ltb}
 use lib.ListN.{length}
 use Rattle.scope.specs.Refusals.{refuseIf, _andThen_, inOrder}
-use Rattle.scope.specs.Geometry.{planeCount, sliceCount, lengthsOf}
+use Rattle.scope.specs.Geometry.{planeCount, sliceCount}
 use Rattle.scope.specs.Layout.{preambleStart}
 use Rattle.scope.specs.Frame as frm
 use Rattle.scope.specs.Frame.{preambleChecks, indexCheck, lengthCheck, needOfAll, sliceCheck, frameChecks}

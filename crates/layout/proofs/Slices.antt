@@ -2,26 +2,25 @@
 -- T = P·K of them are K of each plane. Assumes nothing.
 use mathlib.Core.Path.{_≡_, refl, sym, ap, _∙_}
 use mathlib.Core.Bool.{Bool, true, false}
-use mathlib.Core.List.{List, [], _∷_, _++_}
-use Prim.Native.Nat.{ℕ, zero, suc, _+_, _-_, _*_, _≤_, _<_}
+use mathlib.Core.List.{List, [], _∷_}
+use Prim.Native.Nat.{ℕ, zero, suc, _+_, _*_, _≤_, _<_}
 use native.Mathlib.Decide.{ℕ-discrete}
 use native.Mathlib.Numerals.{add-one}
 use native.Mathlib.Omega.{arith}
 use borrow.Author.Tests.{eq-eqb, ne-eqb, leb-false, le-leb, lt-leb}
 use borrow.Author.Needs.{needs}
-use lib.Dec.{eqb, leb}
+use lib.Dec.{leb}
 use lib.ListN.{length, getD, set, length-set}
 use lib.Seq.{getD-set-same, getD-set-other}
-use Rattle.scope.specs.Base.{one, sumBelow}
+use Rattle.scope.specs.Base.{sumBelow}
 use Rattle.scope.specs.Refusals.{refuseIf, _andThen_, inOrder}
 use Rattle.scope.specs.Geometry.{planeCount, slicesPerPlane, sliceCount}
 use Rattle.scope.specs.Layout as lay
-use Rattle.scope.specs.Layout.{planeIndex, namedBefore, placeInPlane}
+use Rattle.scope.specs.Layout.{planeIndex, namedBefore}
 use Rattle.scope.specs.Frame as frm
 use Rattle.scope.specs.Frame.{indexCheck}
 use Rattle.scope.specs.declared.Geometry.{Geometry}
 use Rattle.scope.specs.declared.Place.the-variants.{Slice}
-use Rattle.scope.specs.declared.Answer.{Answer}
 use Rattle.scope.specs.declared.Answer.the-variants.{Done, Refused}
 use Rattle.figures.proofs.Counts.{all-full, sum-one-more, sum-none}
 use Rattle.figures.proofs.InOrder.{none-yet, one-passed, one-refused, each-passed}

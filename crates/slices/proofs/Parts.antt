@@ -1,10 +1,9 @@
 -- Each plane's lengths as a part of those lent (document 01, "Lengths: 2^depth bytes a plane, planes in wire order"), and the loop
 -- that finds the shortest of each. Assumes nothing.
 use mathlib.Core.Path.{_≡_, refl, sym, ap, _∙_}
-use Prim.Native.Nat.{ℕ, zero, suc, _+_, _-_, _*_, _^_, _≤_, _<_}
+use Prim.Native.Nat.{ℕ, suc, _+_, _-_, _*_, _^_, _≤_, _<_}
 use native.Mathlib.Nat.{mul-le-mul-right, suc-mul}
 use native.Mathlib.Decide.{ℕ-discrete, decLe}
-use native.Mathlib.Numerals.{add-one}
 use native.Mathlib.Omega.{arith}
 use mathlib.Core.List.{List, [], _∷_}
 use mir.Syntax.{w64}
@@ -12,13 +11,11 @@ use mir.Val.{Fits}
 use borrow.Author.Needs.{needs}
 use lib.ListN.{length, getD, take, drop, set, length-set, length-take, length-drop, drop-of-length-le}
 use lib.Seq.{getD-set-same, getD-set-other, take-nil, ext-getD}
-use lib.Pow.{pow-mono}
 use Rattle.scope.specs.Geometry as geo
 use Rattle.scope.specs.Geometry.{planeCount, lengthsOf}
 use Rattle.scope.specs.Words as words
 use Rattle.scope.specs.Words.{shortest}
 use Rattle.scope.specs.declared.Geometry.{Geometry}
-use Rattle.figures.specs.Sound.{Sound}
 use Rattle.figures.proofs.Places.{planes-most}
 use Rattle.figures.proofs.Figures.{samples-most}
 use Rattle.layout.proofs.Slices.{four-zeros}

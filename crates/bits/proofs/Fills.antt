@@ -1,10 +1,10 @@
 -- The loop that fills a lent slice front to back with a list that is known beforehand, one store a turn, and the two lists that
 -- this crate fills one with: bytes as they stand, and packed samples (document 01, "Layout"). Assumes nothing.
-use mathlib.Core.Path.{_≡_, refl, sym, ap, _∙_}
-use Prim.Native.Nat.{ℕ, zero, suc, _+_, _-_, _*_, _≤_, _<_}
+use mathlib.Core.Path.{_≡_, refl, sym, _∙_}
+use Prim.Native.Nat.{ℕ, _+_, _*_, _≤_, _<_}
 use native.Mathlib.Numerals.{add-one}
 use native.Mathlib.Omega.{arith}
-use mathlib.Core.List.{List, [], _∷_, _++_}
+use mathlib.Core.List.{List}
 use borrow.Author.Needs.{needs}
 use lib.ListN.{length, take, drop, getD, set, length-set, length-take, length-drop}
 use lib.Seq.{take-suc, take-suc-set, take-all, getD-take, getD-drop}
@@ -18,10 +18,12 @@ pub record Fills (ys s : List ℕ) (i : ℕ) : Type 0 where
   pub same : length s ≡ length ys
 
 module _ (ys : List ℕ) where
+  -- nothing is made yet
   pub fills-start : (s : List ℕ) → length s ≡ length ys → Fills ys s 0
   fills-start s e = record { made = refl; within = omega arith; same = e }
 
   module _ (s : List ℕ) (i : ℕ) (d : Fills ys s i) where
+    -- one element more
     pub fills-step : (v : ℕ) → i < length s → v ≡ getD ys i 0 → Fills ys (set s i v) (i + 1)
     fills-step v h e =
         let l : i < length ys = omega arith in
@@ -31,6 +33,7 @@ module _ (ys : List ℕ) where
           same = simp length-set (d .same);
         }
 
+    -- all of them
     pub fills-end : length s ≤ i → s ≡ ys
     fills-end h =
         let l : length ys ≤ i = omega arith in
@@ -39,9 +42,11 @@ module _ (ys : List ℕ) where
 -- ---- bytes as they stand
 
 module _ (src : List ℕ) (from : ℕ) (s₀ : List ℕ) (h : from + length s₀ ≤ length src) where
+  -- before the first byte
   pub copy-start : Fills (rawSamples 8 (drop from src) (length s₀)) s₀ 0
   copy-start = fills-start _ s₀ (rw raw-bytes (simp (length-take, length-drop) (omega arith)))
 
+  -- a byte copied
   pub copy-step : (s : List ℕ) (i v : ℕ) → Fills (rawSamples 8 (drop from src) (length s₀)) s i → length s ≡ length s₀ → i < length s → v ≡ getD src (from + i) 0 → Fills (rawSamples 8 (drop from src) (length s₀)) (set s i v) (i + 1)
   copy-step s i v d k l e =
       let m : i < length s₀ = omega arith in
@@ -50,9 +55,11 @@ module _ (src : List ℕ) (from : ℕ) (s₀ : List ℕ) (h : from + length s₀
 -- ---- packed samples
 
 module _ (depth : ℕ) (payload : List ℕ) (at : ℕ) (s₀ : List ℕ) where
+  -- before the first sample
   pub unpack-start : Fills (packedFrom depth payload at (length s₀)) s₀ 0
   unpack-start = fills-start _ s₀ (sym (packed-length depth payload at (length s₀)))
 
+  -- a sample unpacked
   pub unpack-step : (s : List ℕ) (i p v : ℕ) → Fills (packedFrom depth payload at (length s₀)) s i → length s ≡ length s₀ → p ≡ at + i * depth → i < length s → v ≡ window payload p depth → Fills (packedFrom depth payload at (length s₀)) (set s i v) (i + 1)
   unpack-step s i p v d k q l e =
       let m : i < length s₀ = omega arith in

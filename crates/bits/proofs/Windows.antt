@@ -2,16 +2,14 @@
 -- cites these and not how a window is made. Assumes nothing.
 use mathlib.Core.Path.{_≡_, refl, sym, ap, _∙_}
 use Prim.Native.Nat.{ℕ, zero, suc, _+_, _-_, _*_, _/_, _%_, _^_, _≤_, _<_}
-use native.Mathlib.Nat.{add-suc, add-zero, add-assoc, mul-assoc, mul-one, mul-zero, zero-add, zero-div, pow-suc, lt-of-lt-of-le, le-antisymm, div-div-eq-div-mul, pow-succ', add-sub-of-le}
+use native.Mathlib.Nat.{add-suc, add-zero, mul-assoc, mul-one, zero-div, pow-suc, lt-of-lt-of-le, le-antisymm, div-div-eq-div-mul, pow-succ', add-sub-of-le}
 use native.Mathlib.Numerals.{add-one}
 use native.Mathlib.Omega.{arith}
-use mathlib.Core.Bool.{cond}
-use mathlib.Core.List.{List, [], _∷_}
+use mathlib.Core.List.{List}
 use borrow.Author.Tests.{ne-eqb}
 use borrow.Author.Needs.{needs}
 use mir.Syntax.{w16}
 use mir.Val.{Fits}
-use lib.Dec.{eqb}
 use lib.ListN.{length, take, getD, List·getD-eq-default}
 use lib.Pow.{pow-mono}
 use lib.Arith.{digits-mod}
@@ -104,6 +102,7 @@ pub record Read (payload : List ℕ) (at k w j : ℕ) : Type 0 where
   pub small : w < 262144
 
 module _ (payload : List ℕ) (at k : ℕ) where
+  -- before the first bit
   pub read-start : Read payload at k 0 0
   unfolding bits.window
   read-start = record { made = refl; within = omega arith; small = omega arith }

@@ -10,6 +10,7 @@ use lib.Seq.{getD-set-same, getD-set-other}
 use borrow.Author.Tests.{le-leb, lt-leb}
 use Rattle.builder.specs.Slots.{slotBits, slotBase, Filled}
 
+-- before the first turn
 pub filled-none : (ws : List ℕ) (from e : ℕ) → Filled ws from 0 e ws
 filled-none ws from e = record { inside = λ i h g. absurd (omega arith); before = λ i h. refl; behind = λ i h. refl }
 
@@ -31,6 +32,7 @@ pub bits-first : (m l : ℕ) → l ≤ 12 → slotBits m l ≡ min m 12
 unfolding slotBits
 bits-first m l h = simp (le-leb _ _ h)
 
+-- which begins at 0
 pub base-first : (l : ℕ) → l ≤ 12 → slotBase l ≡ 0
 unfolding slotBase
 base-first l h = simp (le-leb _ _ h)
@@ -40,6 +42,7 @@ pub bits-second : (m l : ℕ) → 12 < l → slotBits m l ≡ m
 unfolding slotBits
 bits-second m l h = simp (lt-leb _ _ h)
 
+-- which begins at 4,096
 pub base-second : (l : ℕ) → 12 < l → slotBase l ≡ 4096
 unfolding slotBase
 base-second l h = simp (lt-leb _ _ h)

@@ -2,4 +2,5 @@ pub mod Filling
 pub mod Rows
 pub mod Placing
 pub mod Written
+pub mod Parts
 pub mod Once

@@ -26,12 +26,15 @@ use Rattle.builder.proofs.Rows.{row-of, of-row, first-room, second-room
 -- ---- what `put` computes
 
 module _ (m l s w n : ℕ) (r : Row m l s w n) (k b : ℕ) (ek : k ≡ slotBits m l) (eb : b ≡ slotBase l) where
+  -- how many slots begin with the word
   pub size-is : 1 * 2 ^ (k - l) % 2 ^ 64 ≡ 2 ^ (slotBits m l - l)
   size-is = shl-one 64 (k - l) (omega (arith, r .small)) ∙ ap (λ (x : ℕ). 2 ^ (x - l)) ek
 
+  -- where they begin
   pub from-is : b + w * (1 * 2 ^ (k - l) % 2 ^ 64) ≡ slotBase l + w * 2 ^ (slotBits m l - l)
   from-is = ap₂ (λ (x y : ℕ). x + w * y) eb size-is
 
+  -- and that they lie within the part that is lent
   pub row-fits : b + w * (1 * 2 ^ (k - l) % 2 ^ 64) + 1 * 2 ^ (k - l) % 2 ^ 64 ≤ n
   row-fits = rw (from-is, size-is) (r .inside)
 
@@ -86,6 +89,7 @@ pub record Placed (ls : List ℕ) (m n : ℕ) (ws next : List ℕ) (s : ℕ) : T
   pub words : (l : ℕ) → 0 < l → l ≤ 18 → getD next l 0 ≡ first ls l + count l (take s ls)
   pub slotted : Slotted ls ws s
 
+-- before the first symbol every slot is 0
 pub placed-start : (ls : List ℕ) (m n : ℕ) (old ws next : List ℕ) → Ready ls m n → next ≡ firstsOf ls → length ws ≡ n → Filled old 0 n 0 ws
     → Placed ls m n ws next 0
 unfolding packed wordIn count

@@ -24,6 +24,7 @@ use Rattle.builder.proofs.Filling.{bits-first, base-first, bits-second,
 pub row-of : (v i j : ℕ) → v * 2 ^ j ≤ i → i < v * 2 ^ j + 2 ^ j → i / 2 ^ j ≡ v
 row-of v i j a b = div-eq-of-lt-le (2 ^ j) a (omega arith)
 
+-- and the other way round
 pub of-row : (v i j : ℕ) → i / 2 ^ j ≡ v → (v * 2 ^ j ≤ i) × (i < v * 2 ^ j + 2 ^ j)
 of-row v i j e = (rw e at (div-mul-le-self i (2 ^ j)), rw e at (lt-div-mul-add {a = i} (pow-pos j)))
 

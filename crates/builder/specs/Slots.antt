@@ -13,6 +13,7 @@ use Rattle.scope.specs.Lookup.{packed, wordIn}
 unfoldable pub slotBits : ℕ → ℕ → ℕ
 slotBits m l = cond (leb l 12) (min m 12) m
 
+-- where that part begins
 unfoldable pub slotBase : ℕ → ℕ
 slotBase l = cond (leb l 12) 0 4096
 

@@ -1,9 +1,9 @@
 -- Any two outcomes that a public function's statement allows are equal. `Post` is the plain reading that Rattle itself makes of
 -- the `ensures` clauses of src/, so these are about the contracts and about nothing that restates them. Assumes nothing.
-use mathlib.Core.Path.{_≡_, sym, _∙_}
+use mathlib.Core.Path.{sym, _∙_}
 use contract.Lifetimes.{Lfts}
-use borrow.Fn.World.{ArgsD, ResD}
-use denote.Triple.Clauses.{AtExit}
+use Rattle.figures.specs.Settled.{Settles}
+use borrow.Fn.World.{ArgsD}
 use Rattle.figures.proofs.plane_count as plane-count
 use Rattle.figures.proofs.plane_count.Reads as plane-count-reads
 use Rattle.figures.proofs.is_subsampled as is-subsampled
@@ -43,78 +43,59 @@ use Rattle.figures.proofs.place_rows.Reads as place-rows-reads
 use Rattle.figures.proofs.place_samples as place-samples
 use Rattle.figures.proofs.place_samples.Reads as place-samples-reads
 
-pub plane-count-once : (κs : Lfts 0) (a : ArgsD plane-count.signature κs) (r₁ r₂ : ResD plane-count.signature κs) (s₁ s₂ : AtExit plane-count.ended κs)
-    → plane-count-reads.Post κs a r₁ s₁ → plane-count-reads.Post κs a r₂ s₂ → r₁ ≡ r₂
+pub plane-count-once : (κs : Lfts 0) (a : ArgsD plane-count.signature κs) → Settles (plane-count-reads.Post κs a)
 plane-count-once κs a r₁ r₂ s₁ s₂ p q = p ∙ sym q
 
-pub is-subsampled-once : (κs : Lfts 0) (a : ArgsD is-subsampled.signature κs) (r₁ r₂ : ResD is-subsampled.signature κs) (s₁ s₂ : AtExit is-subsampled.ended κs)
-    → is-subsampled-reads.Post κs a r₁ s₁ → is-subsampled-reads.Post κs a r₂ s₂ → r₁ ≡ r₂
+pub is-subsampled-once : (κs : Lfts 0) (a : ArgsD is-subsampled.signature κs) → Settles (is-subsampled-reads.Post κs a)
 is-subsampled-once κs a r₁ r₂ s₁ s₂ p q = p ∙ sym q
 
-pub is-correlated-once : (κs : Lfts 0) (a : ArgsD is-correlated.signature κs) (r₁ r₂ : ResD is-correlated.signature κs) (s₁ s₂ : AtExit is-correlated.ended κs)
-    → is-correlated-reads.Post κs a r₁ s₁ → is-correlated-reads.Post κs a r₂ s₂ → r₁ ≡ r₂
+pub is-correlated-once : (κs : Lfts 0) (a : ArgsD is-correlated.signature κs) → Settles (is-correlated-reads.Post κs a)
 is-correlated-once κs a r₁ r₂ s₁ s₂ p q = p ∙ sym q
 
-pub is-small-once : (κs : Lfts 0) (a : ArgsD is-small.signature κs) (r₁ r₂ : ResD is-small.signature κs) (s₁ s₂ : AtExit is-small.ended κs)
-    → is-small-reads.Post κs a r₁ s₁ → is-small-reads.Post κs a r₂ s₂ → r₁ ≡ r₂
+pub is-small-once : (κs : Lfts 0) (a : ArgsD is-small.signature κs) → Settles (is-small-reads.Post κs a)
 is-small-once κs a r₁ r₂ s₁ s₂ p q = p ∙ sym q
 
-pub plane-width-once : (κs : Lfts 0) (a : ArgsD plane-width.signature κs) (r₁ r₂ : ResD plane-width.signature κs) (s₁ s₂ : AtExit plane-width.ended κs)
-    → plane-width-reads.Post κs a r₁ s₁ → plane-width-reads.Post κs a r₂ s₂ → r₁ ≡ r₂
+pub plane-width-once : (κs : Lfts 0) (a : ArgsD plane-width.signature κs) → Settles (plane-width-reads.Post κs a)
 plane-width-once κs a r₁ r₂ s₁ s₂ p q = p .0 ∙ sym (q .0)
 
-pub plane-height-once : (κs : Lfts 0) (a : ArgsD plane-height.signature κs) (r₁ r₂ : ResD plane-height.signature κs) (s₁ s₂ : AtExit plane-height.ended κs)
-    → plane-height-reads.Post κs a r₁ s₁ → plane-height-reads.Post κs a r₂ s₂ → r₁ ≡ r₂
+pub plane-height-once : (κs : Lfts 0) (a : ArgsD plane-height.signature κs) → Settles (plane-height-reads.Post κs a)
 plane-height-once κs a r₁ r₂ s₁ s₂ p q = p .0 ∙ sym (q .0)
 
-pub plane-slice-height-once : (κs : Lfts 0) (a : ArgsD plane-slice-height.signature κs) (r₁ r₂ : ResD plane-slice-height.signature κs) (s₁ s₂ : AtExit plane-slice-height.ended κs)
-    → plane-slice-height-reads.Post κs a r₁ s₁ → plane-slice-height-reads.Post κs a r₂ s₂ → r₁ ≡ r₂
+pub plane-slice-height-once : (κs : Lfts 0) (a : ArgsD plane-slice-height.signature κs) → Settles (plane-slice-height-reads.Post κs a)
 plane-slice-height-once κs a r₁ r₂ s₁ s₂ p q = p .0 ∙ sym (q .0)
 
-pub plane-samples-once : (κs : Lfts 0) (a : ArgsD plane-samples.signature κs) (r₁ r₂ : ResD plane-samples.signature κs) (s₁ s₂ : AtExit plane-samples.ended κs)
-    → plane-samples-reads.Post κs a r₁ s₁ → plane-samples-reads.Post κs a r₂ s₂ → r₁ ≡ r₂
+pub plane-samples-once : (κs : Lfts 0) (a : ArgsD plane-samples.signature κs) → Settles (plane-samples-reads.Post κs a)
 plane-samples-once κs a r₁ r₂ s₁ s₂ p q = p .0 ∙ sym (q .0)
 
-pub fields-of-once : (κs : Lfts 0) (a : ArgsD fields-of.signature κs) (r₁ r₂ : ResD fields-of.signature κs) (s₁ s₂ : AtExit fields-of.ended κs)
-    → fields-of-reads.Post κs a r₁ s₁ → fields-of-reads.Post κs a r₂ s₂ → r₁ ≡ r₂
+pub fields-of-once : (κs : Lfts 0) (a : ArgsD fields-of.signature κs) → Settles (fields-of-reads.Post κs a)
 fields-of-once κs a r₁ r₂ s₁ s₂ p q = p .0 ∙ sym (q .0)
 
-pub symbol-count-once : (κs : Lfts 0) (a : ArgsD symbol-count.signature κs) (r₁ r₂ : ResD symbol-count.signature κs) (s₁ s₂ : AtExit symbol-count.ended κs)
-    → symbol-count-reads.Post κs a r₁ s₁ → symbol-count-reads.Post κs a r₂ s₂ → r₁ ≡ r₂
+pub symbol-count-once : (κs : Lfts 0) (a : ArgsD symbol-count.signature κs) → Settles (symbol-count-reads.Post κs a)
 symbol-count-once κs a r₁ r₂ s₁ s₂ p q = p .0 ∙ sym (q .0)
 
-pub order-of-once : (κs : Lfts 0) (a : ArgsD order-of.signature κs) (r₁ r₂ : ResD order-of.signature κs) (s₁ s₂ : AtExit order-of.ended κs)
-    → order-of-reads.Post κs a r₁ s₁ → order-of-reads.Post κs a r₂ s₂ → r₁ ≡ r₂
+pub order-of-once : (κs : Lfts 0) (a : ArgsD order-of.signature κs) → Settles (order-of-reads.Post κs a)
 order-of-once κs a r₁ r₂ s₁ s₂ p q = p ∙ sym q
 
-pub all-samples-once : (κs : Lfts 0) (a : ArgsD all-samples.signature κs) (r₁ r₂ : ResD all-samples.signature κs) (s₁ s₂ : AtExit all-samples.ended κs)
-    → all-samples-reads.Post κs a r₁ s₁ → all-samples-reads.Post κs a r₂ s₂ → r₁ ≡ r₂
+pub all-samples-once : (κs : Lfts 0) (a : ArgsD all-samples.signature κs) → Settles (all-samples-reads.Post κs a)
 all-samples-once κs a r₁ r₂ s₁ s₂ p q = p .0 ∙ sym (q .0)
 
-pub plane-start-once : (κs : Lfts 0) (a : ArgsD plane-start.signature κs) (r₁ r₂ : ResD plane-start.signature κs) (s₁ s₂ : AtExit plane-start.ended κs)
-    → plane-start-reads.Post κs a r₁ s₁ → plane-start-reads.Post κs a r₂ s₂ → r₁ ≡ r₂
+pub plane-start-once : (κs : Lfts 0) (a : ArgsD plane-start.signature κs) → Settles (plane-start-reads.Post κs a)
 plane-start-once κs a r₁ r₂ s₁ s₂ p q = p .0 ∙ sym (q .0)
 
-pub row-start-once : (κs : Lfts 0) (a : ArgsD row-start.signature κs) (r₁ r₂ : ResD row-start.signature κs) (s₁ s₂ : AtExit row-start.ended κs)
-    → row-start-reads.Post κs a r₁ s₁ → row-start-reads.Post κs a r₂ s₂ → r₁ ≡ r₂
+pub row-start-once : (κs : Lfts 0) (a : ArgsD row-start.signature κs) → Settles (row-start-reads.Post κs a)
 row-start-once κs a r₁ r₂ s₁ s₂ p q = p .0 ∙ sym (q .0)
 
-pub slices-per-plane-once : (κs : Lfts 0) (a : ArgsD slices-per-plane.signature κs) (r₁ r₂ : ResD slices-per-plane.signature κs) (s₁ s₂ : AtExit slices-per-plane.ended κs)
-    → slices-per-plane-reads.Post κs a r₁ s₁ → slices-per-plane-reads.Post κs a r₂ s₂ → r₁ ≡ r₂
+pub slices-per-plane-once : (κs : Lfts 0) (a : ArgsD slices-per-plane.signature κs) → Settles (slices-per-plane-reads.Post κs a)
 slices-per-plane-once κs a r₁ r₂ s₁ s₂ p q = p .0 ∙ sym (q .0)
 
-pub slice-count-once : (κs : Lfts 0) (a : ArgsD slice-count.signature κs) (r₁ r₂ : ResD slice-count.signature κs) (s₁ s₂ : AtExit slice-count.ended κs)
-    → slice-count-reads.Post κs a r₁ s₁ → slice-count-reads.Post κs a r₂ s₂ → r₁ ≡ r₂
+pub slice-count-once : (κs : Lfts 0) (a : ArgsD slice-count.signature κs) → Settles (slice-count-reads.Post κs a)
 slice-count-once κs a r₁ r₂ s₁ s₂ p q = p .0 ∙ sym (q .0)
 
-pub place-start-once : (κs : Lfts 0) (a : ArgsD place-start.signature κs) (r₁ r₂ : ResD place-start.signature κs) (s₁ s₂ : AtExit place-start.ended κs)
-    → place-start-reads.Post κs a r₁ s₁ → place-start-reads.Post κs a r₂ s₂ → r₁ ≡ r₂
+pub place-start-once : (κs : Lfts 0) (a : ArgsD place-start.signature κs) → Settles (place-start-reads.Post κs a)
 place-start-once κs a r₁ r₂ s₁ s₂ p q = p .0 ∙ sym (q .0)
 
-pub place-rows-once : (κs : Lfts 0) (a : ArgsD place-rows.signature κs) (r₁ r₂ : ResD place-rows.signature κs) (s₁ s₂ : AtExit place-rows.ended κs)
-    → place-rows-reads.Post κs a r₁ s₁ → place-rows-reads.Post κs a r₂ s₂ → r₁ ≡ r₂
+pub place-rows-once : (κs : Lfts 0) (a : ArgsD place-rows.signature κs) → Settles (place-rows-reads.Post κs a)
 place-rows-once κs a r₁ r₂ s₁ s₂ p q = p .0 ∙ sym (q .0)
 
-pub place-samples-once : (κs : Lfts 0) (a : ArgsD place-samples.signature κs) (r₁ r₂ : ResD place-samples.signature κs) (s₁ s₂ : AtExit place-samples.ended κs)
-    → place-samples-reads.Post κs a r₁ s₁ → place-samples-reads.Post κs a r₂ s₂ → r₁ ≡ r₂
+pub place-samples-once : (κs : Lfts 0) (a : ArgsD place-samples.signature κs) → Settles (place-samples-reads.Post κs a)
 place-samples-once κs a r₁ r₂ s₁ s₂ p q = p .0 ∙ sym (q .0)

@@ -1,11 +1,11 @@
 -- Document 01, "Layout": the sides of a plane, its places, which are cut at its height and K of which cover it, and the planes in
 -- the buffer. Over a geometry that refusals 1 to 3 left. Assumes nothing.
 use mathlib.Core.Path.{_≡_, refl, sym, ap, _∙_}
-use mathlib.Core.Bool.{Bool, true, false, cond, _&&_, _||_}
+use mathlib.Core.Bool.{Bool, true, false, cond}
 use Prim.Native.Nat.{ℕ, zero, suc, _+_, _-_, _*_, _/_, _%_, _≤_, _<_, min}
 use native.Mathlib.Nat.{zero-mul, suc-mul, add-mul, mul-comm, mul-left-comm, mul-zero, div-add-mod, le-div-iff-mul-le, lt-div-mul-add, div-lt-iff-lt-mul, lt-of-mul-lt-mul-left, le-of-mul-le-mul-left, mul-le-mul-right, mul-le-mul, mul-le-mul-left, div-le-self}
 use native.Mathlib.Omega.{arith}
-use Rattle.scope.specs.Base.{overUp, sumBelow}
+use Rattle.scope.specs.Base.{overUp}
 use Rattle.scope.specs.Geometry as geo
 use Rattle.scope.specs.Geometry.{planesOf, subsampled, correlated, planeCount, slicesPerPlane, sliceCount, small, planeWidth, planeHeight, planeSliceHeight, firstRow, rowsAt, planeSamples, allSamples, swapped, orderOf, planeStart, rowStart}
 use Rattle.scope.specs.declared.Family.{Family}
@@ -41,10 +41,12 @@ module _ (g : Geometry) (ok : Sound g) (p : ℕ) where
   unfolding geo.planeWidth
   width-fits = side (small g p) (g .width) (g .sx) (ok .wide) (ok .even-width)
 
+  -- its height
   pub height-fits : (1 ≤ planeHeight g p) × (planeHeight g p ≤ 16384)
   unfolding geo.planeHeight
   height-fits = side (small g p) (g .height) (g .sy) (ok .tall) (ok .even-height)
 
+  -- its slice height
   pub slice-height-fits : (1 ≤ planeSliceHeight g p) × (planeSliceHeight g p ≤ 16384)
   unfolding geo.planeSliceHeight
   slice-height-fits = side (small g p) (g .«slice_height») (g .sy) (ok .sliced) (ok .even-slices)
@@ -57,6 +59,7 @@ planes-most Yuv = omega arith
 planes-most Rgba = omega arith
 planes-most Yuva = omega arith
 
+-- and at least one
 pub planes-some : (f : Family) → 1 ≤ planesOf f
 planes-some Gray = omega arith
 planes-some Rgb = omega arith
@@ -114,6 +117,7 @@ module _ (g : Geometry) (ok : Sound g) where
       let k : slicesPerPlane g < suc (g .height) = div-lt-iff-lt-mul (ok .sliced .0) .1 (omega (arith, suc-mul (g .height) b, ok .sliced .0)) in
       omega (arith, ok .tall .1)
 
+  -- K is at least 1
   pub slices-some : 1 ≤ slicesPerPlane g
   slices-some = go (slicesPerPlane g) refl
     where
@@ -125,6 +129,7 @@ module _ (g : Geometry) (ok : Sound g) where
   pub slice-count-most : sliceCount g ≤ 65536
   slice-count-most = mul-le-mul (planes-most (g .family)) slices-most
 
+  -- T is at least 1
   pub slice-count-some : 1 ≤ sliceCount g
   slice-count-some = mul-le-mul (planes-some (g .family)) slices-some
 
@@ -147,6 +152,7 @@ module _ (g : Geometry) (ok : Sound g) where
       let e : min (firstRow g p k) (planeHeight g p) ≡ firstRow g p k = omega (arith, place-in p k l) in
       rw e
 
+  -- so it starts there in the buffer
   pub place-starts : (p k : ℕ) → k < slicesPerPlane g → rowStart g p (firstRow g p k) ≡ planeStart g p + filled g p k
   unfolding geo.rowStart
   place-starts p k l = ap (λ (y : ℕ). planeStart g p + y) (sym (filled-start p k l))
@@ -197,6 +203,7 @@ correlated-full Yuv e = sym e
 correlated-full Rgba e = refl
 correlated-full Yuva e = sym e
 
+-- and has three planes or four
 pub correlated-three : (f : Family) → correlated f ≡ true → 3 ≤ planesOf f
 correlated-three Gray e = let z : _≡_ {A = ℕ} 0 1 = cc in omega arith
 correlated-three Rgb e = omega arith
@@ -210,6 +217,7 @@ module _ (g : Geometry) where
   unfolding geo.planeWidth geo.small
   widths-alike e p q = rw (correlated-full (g .family) e)
 
+  -- and one size
   pub sizes-alike : correlated (g .family) ≡ true → (p q : ℕ) → planeSamples g p ≡ planeSamples g q
   unfolding geo.planeSamples geo.planeWidth geo.planeHeight geo.small
   sizes-alike e p q = rw (correlated-full (g .family) e)

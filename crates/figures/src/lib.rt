@@ -223,11 +223,11 @@ pub fn place_rows(g: Geometry, p: usize, k: usize) -> usize
     requires { ⌜ k < slicesPerPlane g ⌝ }
     ensures { λ r. ⌜ (r ≡ rowsAt g p k) × (1 ≤ r) × (r ≤ 16384) ⌝ }
 {
-    let b = plane_slice_height(g, p);
+    let full = plane_slice_height(g, p);
     let h = plane_height(g, p);
-    let left = h - k * b;
-    if b < left {
-        return b;
+    let left = h - k * full;
+    if full < left {
+        return full;
     }
     left
 }

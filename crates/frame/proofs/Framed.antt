@@ -1,15 +1,14 @@
 -- Document 01, "Refusal numbers", 5 to 14 before anything is written: the steps put together in the table's order, and what is
 -- known once none applies. Assumes nothing.
-use mathlib.Core.Path.{_≡_, refl, sym, ap, _∙_}
-use mathlib.Core.Bool.{Bool, true, false}
-use Prim.Native.Nat.{ℕ, zero, suc, _+_, _*_, _^_, _≤_, _<_}
+use mathlib.Core.Path.{_≡_, refl, sym, _∙_}
+use Prim.Native.Nat.{ℕ, _+_, _≤_, _<_}
 use mathlib.Core.List.{List}
 use borrow.Author.Tests.{lt-ltb, le-ltb, ltb-false}
 use borrow.Author.Needs.{needs}
 use lib.Dec.{ltb}
 use lib.ListN.{length}
 use Rattle.scope.specs.Refusals.{refuseIf, _andThen_, inOrder}
-use Rattle.scope.specs.Geometry.{planeCount, sliceCount, lengthsOf}
+use Rattle.scope.specs.Geometry.{planeCount, sliceCount}
 use Rattle.scope.specs.Layout.{preambleStart}
 use Rattle.scope.specs.Frame as frm
 use Rattle.scope.specs.Frame.{preambleChecks, indexCheck, lengthCheck, needOfAll, sliceCheck, frameChecks}
@@ -22,7 +21,7 @@ use Rattle.words.specs.declared.Weighed.{Weighed}
 use Rattle.words.specs.declared.Weighed.the-variants as weighed
 use Rattle.layout.specs.Placed as placed
 use Rattle.layout.specs.Placed.{layoutChecks}
-use Rattle.layout.proofs.InOrder.{first-passed, then-passed, if-passed}
+use Rattle.figures.proofs.InOrder.{first-passed, then-passed, if-passed}
 use Rattle.layout.proofs.Checks.{layout-indices, layout-order}
 use Rattle.frame.specs.Words as wrd
 use Rattle.frame.specs.Words.{orNeed, lengthsWeighed, wordChecks}
@@ -39,6 +38,7 @@ need-refused (Refused i v) n m w e = cc
 -- ---- 9 to 14
 
 module _ (frame : List ℕ) (g : Geometry) (lengths : List ℕ) (workspaceLen : ℕ) (a : Weighed) (ea : a ≡ lengthsWeighed g lengths) where
+  -- 9 and 10
   pub words-refused : (m : ℕ) (w : Place) → a ≡ weighed.Refused m w → Refused m w ≡ wordChecks frame g lengths workspaceLen
   unfolding wrd.lengthsWeighed wrd.wordChecks
   words-refused m w h = rw (need-refused (inOrder (planeCount g) (lengthCheck g lengths)) (needOfAll g lengths) m w (sym h ∙ ea))
@@ -52,10 +52,12 @@ module _ (frame : List ℕ) (g : Geometry) (lengths : List ℕ) (workspaceLen : 
     unfolding wrd.lengthsWeighed
     need-all = need-done (inOrder (planeCount g) (lengthCheck g lengths)) (needOfAll g lengths) n (sym h ∙ ea) .1
 
+    -- 11
     pub words-11 : workspaceLen < n → Refused 11 Nothing ≡ wordChecks frame g lengths workspaceLen
     unfolding wrd.wordChecks
     words-11 l = rw (passed, ← need-all, lt-ltb workspaceLen n l)
 
+    -- else the slices' answer
     pub words-slices : (r : Answer) → n ≤ workspaceLen → r ≡ inOrder (sliceCount g) (sliceCheck frame g lengths) → r ≡ wordChecks frame g lengths workspaceLen
     unfolding wrd.wordChecks
     words-slices r l e = rw (passed, ← need-all, le-ltb workspaceLen n l) e
@@ -74,12 +76,15 @@ module _ (frame : List ℕ) (g : Geometry) (lengths : List ℕ) (workspaceLen : 
       go Done b c = refl
       go (Refused n w) b c = refl
 
+  -- a refusal of the first is the answer
   pub frame-early : (a : Answer) (n : ℕ) (w : Place) → a ≡ layoutChecks frame g → a ≡ Refused n w → Refused n w ≡ frameChecks frame g lengths workspaceLen
   frame-early a n w e h = rw (frame-steps, ← e, h)
 
+  -- else the second step gives it
   pub frame-late : (a b : Answer) → a ≡ layoutChecks frame g → a ≡ Done → b ≡ wordChecks frame g lengths workspaceLen → b ≡ frameChecks frame g lengths workspaceLen
   frame-late a b e h k = rw (frame-steps, ← e, h) k
 
+  -- and then none of 5 to 8 applies
   pub layout-told : (a : Answer) → a ≡ layoutChecks frame g → a ≡ Done → Done ≡ layoutChecks frame g
   layout-told a e h = sym h ∙ e
 

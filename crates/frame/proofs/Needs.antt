@@ -1,7 +1,7 @@
 -- Document 01, "Refusal numbers", 9 to 11: the lengths of one plane after the other, and the sum of their needs, as the loop of
 -- src/lib.rt finds them. Assumes nothing.
 use mathlib.Core.Path.{_≡_, refl, sym, ap, _∙_}
-use Prim.Native.Nat.{ℕ, zero, suc, _+_, _-_, _*_, _^_, _≤_, _<_}
+use Prim.Native.Nat.{ℕ, _+_, _-_, _*_, _^_, _≤_, _<_}
 use native.Mathlib.Numerals.{add-one}
 use native.Mathlib.Omega.{arith}
 use mathlib.Core.List.{List}
@@ -11,24 +11,23 @@ use mir.Val.{Fits}
 use lib.ListN.{length, take, drop}
 use Rattle.scope.specs.Base as base
 use Rattle.scope.specs.Base.{sumBelow}
-use Rattle.scope.specs.Refusals.{_andThen_, inOrder}
+use Rattle.scope.specs.Refusals.{inOrder}
 use Rattle.scope.specs.Geometry.{planeCount, lengthsOf}
 use Rattle.scope.specs.Words.{need}
 use Rattle.scope.specs.Frame as frm
-use Rattle.scope.specs.Frame.{lengthCheck, needOfAll}
+use Rattle.scope.specs.Frame.{lengthCheck}
 use Rattle.scope.specs.declared.Geometry.{Geometry}
 use Rattle.scope.specs.declared.Place.{Place}
-use Rattle.scope.specs.declared.Answer.{Answer}
 use Rattle.scope.specs.declared.Answer.the-variants as answer
 use Rattle.words.specs.Weigh.{weighed, answerOf}
 use Rattle.words.specs.declared.Weighed.{Weighed}
 use Rattle.words.specs.declared.Weighed.the-variants.{Need, Refused}
-use Rattle.words.proofs.Weighing.{Passes, need-passes, need-is, weighed-check}
+use Rattle.words.proofs.Weighing.{need-passes, need-is, weighed-check}
 use Rattle.figures.proofs.Places.{planes-most}
-use Rattle.layout.proofs.InOrder.{none-yet, one-passed, one-refused}
+use Rattle.figures.proofs.InOrder.{none-yet, one-passed, one-refused}
 use Rattle.slices.proofs.Parts.{part-is}
 use Rattle.frame.specs.Words as wrd
-use Rattle.frame.specs.Words.{orNeed, lengthsWeighed}
+use Rattle.frame.specs.Words.{lengthsWeighed}
 
 -- plane p's part of the lent lengths is weighed as plane p
 pub part-weighed : (g : Geometry) (lengths : List ℕ) (p n : ℕ) (r : Weighed) → length lengths ≡ planeCount g * 2 ^ g .depth → p < planeCount g → n ≡ 2 ^ g .depth → r ≡ weighed (take (p * n + n - p * n) (drop (p * n) lengths)) p → r ≡ weighed (lengthsOf g lengths p) p
@@ -44,6 +43,7 @@ pub record Summed (g : Geometry) (lengths : List ℕ) (planes sum p : ℕ) : Typ
   pub few : planes ≤ 4
 
 module _ (g : Geometry) (lengths : List ℕ) (planes : ℕ) where
+  -- before the first plane
   pub summed-start : planes ≡ planeCount g → Summed g lengths planes 0 0
   unfolding base.sumBelow
   summed-start ep = record {
@@ -56,6 +56,7 @@ module _ (g : Geometry) (lengths : List ℕ) (planes : ℕ) where
   }
 
   module _ (sum p : ℕ) (w : Summed g lengths planes sum p) where
+    -- past the last one
     pub summed-end : planes ≤ p → Need sum ≡ lengthsWeighed g lengths
     unfolding wrd.lengthsWeighed frm.needOfAll
     summed-end h =
@@ -65,6 +66,7 @@ module _ (g : Geometry) (lengths : List ℕ) (planes : ℕ) where
         rw (← e) (ap Need s)
 
     module _ (l : p < planes) where
+      -- plane p is one of them
       pub summed-below : p < planeCount g
       summed-below = rw (w .planes-are) at l
 
@@ -72,6 +74,7 @@ module _ (g : Geometry) (lengths : List ℕ) (planes : ℕ) where
         check-is : answerOf r ≡ lengthCheck g lengths p
         check-is = ap answerOf er ∙ weighed-check g lengths p
 
+        -- plane p is refused
         pub summed-refused : (n : ℕ) (pl : Place) → r ≡ Refused n pl → Refused n pl ≡ lengthsWeighed g lengths
         unfolding wrd.lengthsWeighed
         summed-refused n pl h =
@@ -86,9 +89,11 @@ module _ (g : Geometry) (lengths : List ℕ) (planes : ℕ) where
           need-most : n ≤ 266240
           need-most = omega (arith, need-is (lengthsOf g lengths p) p n weighed-is, need-passes (lengthsOf g lengths p) p n weighed-is .bounded)
 
+          -- the sum fits 64 bits
           pub summed-fits : Fits w64 (sum + n)
           summed-fits = record { fits = omega (arith, need-most, w .most, w .few) }
 
+          -- plane p's need is added
           pub summed-step : Summed g lengths planes (sum + n) (p + 1)
           unfolding base.sumBelow
           summed-step = record {

@@ -74,3 +74,8 @@ accumulator-fits ls few k = (there, back)
 
     back : ((l : ℕ) → 0 < l → l ≤ longest ls → summed ls (longest ls - l) < 2 ^ l) → shares ls ≤ 262144
     back t = tiers-fit ls k .1 (λ l z h. omega (arith, t l z h, summed-length ls few (omega arith) l h))
+
+-- "its first sum wraps to the count less one"
+pub first-sum : (ls : List ℕ) → length ls ≤ 16384 → 0 < longest ls → suc (summed ls 0) ≡ count (longest ls) ls
+unfolding startDown
+first-sum ls few some = summed-end ls few some 0 ∙ rw (sub-zero (longest ls)) (omega arith)

@@ -108,6 +108,7 @@ pub record Heads (ls : List ℕ) (x : ℕ) : Type 0 where
   pub long : 12 < lengthOf ls symbol
   pub is : wordOf ls symbol / 2 ^ (lengthOf ls symbol - 12) ≡ x
 
+-- the symbol whose word a head begins
 pub head-elim : (ls : List ℕ) (x n : ℕ) → n ≤ length ls → headBelow ls x n ≡ true → Heads ls x
 unfolding headBelow isHead
 head-elim ls x zero k e = absurd (true≢false (sym e))
@@ -140,6 +141,7 @@ first-head ls x h a =
     head-yes ls x (length ls) s (t .has-word .inside) (omega arith)
     (ap (λ (k : ℕ). wordOf ls s / 2 ^ k) f ∙ ap (λ (k : ℕ). k / 2 ^ suc (t .more)) (t .has-word .is) ∙ t .heads-it)
 
+-- and no number from first(12) on is one
 pub no-head : (ls : List ℕ) (x : ℕ) → 12 < longest ls → first ls 12 ≤ x → headBelow ls x (length ls) ≡ false
 no-head ls x h a = elim (which (headBelow ls x (length ls))) [
   | inl e ↦ absurd (not-le-of-lt (heads-below ls x (head-elim ls x (length ls) (le-refl (length ls)) e) h) a)

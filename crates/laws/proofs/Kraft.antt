@@ -169,14 +169,17 @@ word-fits ls k f s i z = lt-of-lt-of-le (word-lt-end ls s i) (end-fits ls (lengt
 
 -- ---- refusal 10's test
 
+-- shares of at most one pass
 pub over-none : (ls : List ℕ) → shares ls ≤ 262144 → overfull ls ≡ false
 unfolding overfull
 over-none ls h = le-ltb 262144 (shares ls) h
 
+-- greater ones do not
 pub over-some : (ls : List ℕ) → 262144 < shares ls → overfull ls ≡ true
 unfolding overfull
 over-some ls h = lt-ltb 262144 (shares ls) h
 
+-- and what passes is at most one
 pub none-over : (ls : List ℕ) → overfull ls ≡ false → shares ls ≤ 262144
 unfolding overfull
 none-over ls h = ltb-false 262144 (shares ls) h
@@ -188,9 +191,11 @@ unfolding share
 share-some zero z = absurd (omega arith)
 share-some (suc l) z = pow-pos (18 - suc l)
 
+-- exactly one passes
 pub complete-passes : (ls : List ℕ) → shares ls ≡ 262144 → overfull ls ≡ false
 complete-passes ls e = over-none ls (le-of-eq e)
 
+-- one and any share more does not
 pub one-more-over : (ls : List ℕ) (l : ℕ) → shares ls ≡ 262144 → 0 < l → overfull (l ∷ ls) ≡ true
 unfolding shares
 one-more-over ls l e z = over-some (l ∷ ls) (omega (arith, share-some l z))

@@ -10,11 +10,13 @@ use Rattle.scope.specs.Base.{listFrom, listBelow, part, replaced}
 
 -- ---- f 0, f 1, ..
 
+-- as many as are asked for
 pub length-listFrom : (f : ℕ → ℕ) (i n : ℕ) → length (listFrom f i n) ≡ n
 unfolding listFrom
 length-listFrom f i zero = refl
 length-listFrom f i (suc n) = ap suc (length-listFrom f (suc i) n)
 
+-- element k is f (i + k)
 pub getD-from : (f : ℕ → ℕ) (i n k : ℕ) → k < n → getD (listFrom f i n) k 0 ≡ f (i + k)
 unfolding listFrom
 getD-from f i zero k h = absurd (not-suc-le-zero h)
@@ -87,6 +89,7 @@ module _ (l xs : List ℕ) (at : ℕ) (fits : at + length xs ≤ length l) where
   pub part-before : (from n : ℕ) → from + n ≤ at → part new from n ≡ part l from n
   part-before from n h = same-part from n (λ i b. let c : from + i < at = omega arith in replaced-before (from + i) c)
 
+  -- and one that lies after it
   pub part-after : (from n : ℕ) → at + length xs ≤ from → part new from n ≡ part l from n
   part-after from n h =
       same-part from n (λ i b.

@@ -28,6 +28,7 @@ use Rattle.laws.proofs.Table.{need-short, need-long, table-length, tabl
 
 -- ---- what a workspace word says
 
+-- a word that is packed is unpacked again
 pub unpacked-packed : (o : Found) → ((l s : ℕ) → o ≡ Word l s → (0 < l) × (l < 255)) → unpacked (packed o) ≡ o
 unfolding unpacked packed
 unpacked-packed NoWord h = refl

@@ -58,6 +58,7 @@ need-short ls h = go (ℕ-discrete (longest ls) 0)
     go (yes e) = rw e
     go (no e) = simp (ne-eqb (longest ls) 0 e, le-leb (longest ls) 12 h)
 
+-- where some word is longer than 12
 pub need-long : (ls : List ℕ) → 12 < longest ls → need ls ≡ 4096 + heads ls * 2 ^ (longest ls - 12)
 unfolding need needFrom
 need-long ls h =
@@ -112,6 +113,7 @@ table-first ls i h b =
     ∙ List·getD-append (listFrom (firstPart ls 12) 0 4096) (slots ls (longest ls) (heads ls * 2 ^ (longest ls - 12))) 0 i l
     ∙ getD-below (firstPart ls 12) 4096 i b
 
+-- a slot of the second part
 pub table-second : (ls : List ℕ) (i : ℕ) → 12 < longest ls → i < heads ls * 2 ^ (longest ls - 12)
     → getD (tableOf ls) (4096 + i) 0 ≡ packed (wordIn ls (longest ls) i (length ls))
 unfolding slots

@@ -40,6 +40,7 @@ pub record Has (ls : List ℕ) (l v : ℕ) : Type 0 where
   pub long : lengthOf ls symbol ≡ l
   pub is : wordOf ls symbol ≡ v
 
+-- that symbol
 pub has : (ls : List ℕ) (l v : ℕ) → first ls l ≤ v → v < end ls l → Has ls l v
 unfolding end wordOf
 has ls l v a b =
@@ -151,6 +152,7 @@ begins-of-test ls payload p s h e =
     let b = both (ltb 0 (lengthOf ls s)) (eqb (window payload p (lengthOf ls s)) (wordOf ls s)) e in
     record { inside = h; some = ltb-true _ _ (b .0); same = eqb-true _ _ (b .1) }
 
+-- and the other way round
 pub test-of-begins : (ls payload : List ℕ) (p s : ℕ) → Begins ls payload p s → beginsWith ls payload p s ≡ true
 unfolding beginsWith
 test-of-begins ls payload p s b = simp (lt-ltb _ _ (b .some), eq-eqb _ _ (b .same))
@@ -181,6 +183,7 @@ pub word-found : (ls payload : List ℕ) (p s : ℕ) → Begins ls payload p s �
 unfolding wordAt
 word-found ls payload p s b = below-found ls payload p (length ls) (le-refl (length ls)) s (b .inside) b
 
+-- where the bits begin with no word
 pub word-none : (ls payload : List ℕ) (p : ℕ) → ((s : ℕ) → Begins ls payload p s → ⊥) → wordAt ls payload p ≡ NoWord
 unfolding wordAt
 word-none ls payload p h = below-none ls payload p (length ls) (le-refl (length ls)) h
@@ -211,6 +214,7 @@ pub record FoundIn (ls : List ℕ) (l s : ℕ) : Type 0 where
   pub most : l ≤ longest ls
   pub symbol : s < length ls
 
+-- of a word that is found
 pub found-in : (ls payload : List ℕ) (p l s : ℕ) → wordAt ls payload p ≡ Word l s → FoundIn ls l s
 found-in ls payload p l s e =
     let b = found-begins ls payload p l s e in

@@ -1,46 +1,49 @@
 -- Document 01, "Refusal numbers", 5 to 8: each as src/lib.rt finds it, and what is known once there is none. Assumes nothing.
-use mathlib.Core.Path.{_≡_, refl, sym, ap, _∙_}
-use mathlib.Core.Bool.{Bool, true, false, cond, not, _&&_, _||_}
+use mathlib.Core.Path.{_≡_, sym, _∙_}
+use mathlib.Core.Bool.{true, false, not}
 use mathlib.Core.List.{List}
-use Prim.Native.Nat.{ℕ, zero, suc, _+_, _-_, _*_, _/_, _%_, _^_, _≤_, _<_, min}
-use native.Mathlib.Nat.{le-div-iff-mul-le, mul-le-mul}
+use Prim.Native.Nat.{ℕ, _+_, _*_, _≤_, _<_}
 use native.Mathlib.Omega.{arith}
-use borrow.Author.Tests.{eq-eqb, ne-eqb, eqb-true, leb-true, le-leb, lt-leb, lt-ltb, le-ltb, ltb-false, not-true, not-false}
+use borrow.Author.Tests.{eq-eqb, ne-eqb, lt-ltb, le-ltb, ltb-false}
 use borrow.Author.Needs.{needs}
 use lib.Dec.{eqb, ltb}
 use lib.ListN.{length, getD}
-use Rattle.scope.specs.Refusals.{refuseIf, _andThen_, inOrder}
-use Rattle.scope.specs.Geometry.{planeCount, slicesPerPlane, sliceCount}
+use Rattle.scope.specs.Refusals.{refuseIf, inOrder}
+use Rattle.scope.specs.Geometry.{planeCount, sliceCount}
 use Rattle.scope.specs.Layout as lay
-use Rattle.scope.specs.Layout.{le32, entry, preambleStart, preambleEnd, countByte, planeIndex, sliceStart, sliceEnd}
+use Rattle.scope.specs.Layout.{le32, preambleStart, preambleEnd, countByte, sliceStart, sliceEnd}
 use Rattle.scope.specs.Frame as frm
 use Rattle.scope.specs.Frame.{preambleChecks, indexCheck}
 use Rattle.figures.specs.Sound.{Sound}
 use Rattle.figures.proofs.Places.{slice-count-some}
 use Rattle.layout.specs.Placed as placed
 use Rattle.layout.specs.Placed.{layoutChecks}
-use Rattle.layout.proofs.InOrder.{first-passed, then-passed, if-passed}
+use Rattle.figures.proofs.InOrder.{first-passed, then-passed, if-passed}
 use Rattle.scope.specs.declared.Geometry.{Geometry}
 use Rattle.scope.specs.declared.Place.{Place}
-use Rattle.scope.specs.declared.Place.the-variants.{Nothing, Slice, Plane}
+use Rattle.scope.specs.declared.Place.the-variants.{Nothing}
 use Rattle.scope.specs.declared.Answer.{Answer}
 use Rattle.scope.specs.declared.Answer.the-variants.{Done, Refused}
 
 -- ---- the readers
 
+-- four bytes, the lowest first
 pub le32-is : (frame : List ℕ) (at a b c d : ℕ) → a ≡ getD frame at 0 → b ≡ getD frame (at + 1) 0 → c ≡ getD frame (at + 2) 0 → d ≡ getD frame (at + 3) 0 → a + 256 * b + 65536 * c + 16777216 * d ≡ le32 frame at
 unfolding lay.le32
 le32-is frame at a b c d ea eb ec ed = rw (ea, eb, ec, ed)
 
 module _ (frame : List ℕ) (g : Geometry) (s : ℕ) where
+  -- a slice's start
   pub starts-at : (e : ℕ) → e ≡ le32 frame (32 + 4 * (s + 1)) → 32 + e ≡ sliceStart frame g s
   unfolding lay.sliceStart lay.entry
   starts-at e h = rw h
 
+  -- its end is the next one's start
   pub ends-next : (t e : ℕ) → t ≡ sliceCount g → s + 1 < t → e ≡ sliceStart frame g (s + 1) → e ≡ sliceEnd frame g s
   unfolding lay.sliceEnd
   ends-next t e et l h = rw (lt-ltb (s + 1) (sliceCount g) (rw et at l)) h
 
+  -- the last one's is the frame's end
   pub ends-last : (t : ℕ) → t ≡ sliceCount g → t ≤ s + 1 → length frame ≡ sliceEnd frame g s
   unfolding lay.sliceEnd
   ends-last t et l = rw (le-ltb (s + 1) (sliceCount g) (rw et at l))
@@ -51,6 +54,7 @@ module _ (frame : List ℕ) (g : Geometry) (t : ℕ) (et : t ≡ sliceCount g) w
   start-is : 32 + 4 * (t + 1) ≡ preambleStart g
   start-is = rw et
 
+  -- refusal 5
   pub pre-5 : length frame < 32 + 4 * (t + 1) → Refused 5 Nothing ≡ preambleChecks frame g
   unfolding frm.preambleChecks
   pre-5 h = rw (lt-ltb (length frame) (preambleStart g) (rw start-is at h))
@@ -63,6 +67,7 @@ module _ (frame : List ℕ) (g : Geometry) (t : ℕ) (et : t ≡ sliceCount g) w
     unfolding lay.preambleEnd lay.entry
     end-is = rw ee
 
+    -- 6: the preamble ends before it starts
     pub pre-6a : 32 + e < 32 + 4 * (t + 1) → Refused 6 Nothing ≡ preambleChecks frame g
     unfolding frm.preambleChecks
     pre-6a h = rw (not-5, ← end-is, lt-ltb (32 + e) (preambleStart g) (rw start-is at h))
@@ -71,6 +76,7 @@ module _ (frame : List ℕ) (g : Geometry) (t : ℕ) (et : t ≡ sliceCount g) w
       not-6a : ltb (32 + e) (preambleStart g) ≡ false
       not-6a = le-ltb (32 + e) (preambleStart g) (rw start-is at l6)
 
+      -- 6: or past the frame
       pub pre-6b : length frame < 32 + e → Refused 6 Nothing ≡ preambleChecks frame g
       unfolding frm.preambleChecks
       pre-6b h = rw (not-5, ← end-is, not-6a, lt-ltb (length frame) (32 + e) h)
@@ -79,6 +85,7 @@ module _ (frame : List ℕ) (g : Geometry) (t : ℕ) (et : t ≡ sliceCount g) w
         not-6b : ltb (length frame) (32 + e) ≡ false
         not-6b = le-ltb (length frame) (32 + e) l6b
 
+        -- 6: or is empty
         pub pre-6c : 32 + e ≡ 32 + 4 * (t + 1) → Refused 6 Nothing ≡ preambleChecks frame g
         unfolding frm.preambleChecks
         pre-6c h = rw (not-5, ← end-is, not-6a, not-6b, eq-eqb (32 + e) (preambleStart g) (h ∙ start-is))
@@ -91,6 +98,7 @@ module _ (frame : List ℕ) (g : Geometry) (t : ℕ) (et : t ≡ sliceCount g) w
           unfolding lay.countByte
           byte-is = rw start-is at eb
 
+          -- refusal 7
           pub pre-7 : (b ≡ planes → ⊥) → Refused 7 Nothing ≡ preambleChecks frame g
           unfolding frm.preambleChecks
           pre-7 h = rw (not-5, ← end-is, not-6a, not-6b, not-6c, ← byte-is, ne-eqb b (planeCount g) (λ z. h (z ∙ sym ep)))
@@ -99,11 +107,13 @@ module _ (frame : List ℕ) (g : Geometry) (t : ℕ) (et : t ≡ sliceCount g) w
             not-7 : eqb b (planeCount g) ≡ true
             not-7 = eq-eqb b (planeCount g) (e7 ∙ ep)
 
+            -- 6: it lacks indices
             pub pre-6d : 32 + e < 32 + 4 * (t + 1) + 1 + t → Refused 6 Nothing ≡ preambleChecks frame g
             unfolding frm.preambleChecks
             pre-6d h =
                 rw (not-5, ← end-is, not-6a, not-6b, not-6c, ← byte-is, not-7, lt-ltb (32 + e) (preambleStart g + 1 + sliceCount g) (rw et at h))
 
+            -- none of them
             pub pre-0 : 32 + 4 * (t + 1) + 1 + t ≤ 32 + e → Done ≡ preambleChecks frame g
             unfolding frm.preambleChecks
             pre-0 h =
@@ -131,14 +141,17 @@ indices-in frame g h =
 -- ---- 5 to 8 together
 
 module _ (frame : List ℕ) (g : Geometry) where
+  -- a refusal up to 7 is the answer
   pub layout-early : (a : Answer) (n : ℕ) (w : Place) → a ≡ preambleChecks frame g → a ≡ Refused n w → Refused n w ≡ layoutChecks frame g
   unfolding placed.layoutChecks
   layout-early a n w e h = rw (← e, h)
 
+  -- else the indices' answer is
   pub layout-late : (a b : Answer) → a ≡ preambleChecks frame g → a ≡ Done → b ≡ inOrder (sliceCount g) (indexCheck frame g) → b ≡ layoutChecks frame g
   unfolding placed.layoutChecks
   layout-late a b e h k = rw (← e, h) k
 
+  -- and these are then in the frame
   pub indices-told : (a : Answer) → a ≡ preambleChecks frame g → a ≡ Done → preambleStart g + 1 + sliceCount g ≤ length frame
   indices-told a e h = indices-in frame g (sym h ∙ e)
 
@@ -147,6 +160,7 @@ module _ (frame : List ℕ) (g : Geometry) where
   unfolding placed.layoutChecks
   layout-indices e = indices-in frame g (first-passed (preambleChecks frame g) _ e)
 
+  -- each slice names a plane that has room for it
   pub layout-order : Done ≡ layoutChecks frame g → Done ≡ inOrder (sliceCount g) (indexCheck frame g)
   unfolding placed.layoutChecks
   layout-order e = then-passed (preambleChecks frame g) _ e

@@ -1,4 +1,3 @@
-pub mod InOrder
 pub mod Slices
 pub mod Going
 pub mod Checks

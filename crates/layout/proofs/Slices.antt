@@ -2,29 +2,28 @@
 -- T = P·K of them are K of each plane. Assumes nothing.
 use mathlib.Core.Path.{_≡_, refl, sym, ap, _∙_}
 use mathlib.Core.Bool.{Bool, true, false}
-use mathlib.Core.List.{List, [], _∷_, _++_}
-use Prim.Native.Nat.{ℕ, zero, suc, _+_, _-_, _*_, _≤_, _<_}
+use mathlib.Core.List.{List, [], _∷_}
+use Prim.Native.Nat.{ℕ, zero, suc, _+_, _*_, _≤_, _<_}
 use native.Mathlib.Decide.{ℕ-discrete}
 use native.Mathlib.Numerals.{add-one}
 use native.Mathlib.Omega.{arith}
 use borrow.Author.Tests.{eq-eqb, ne-eqb, leb-false, le-leb, lt-leb}
 use borrow.Author.Needs.{needs}
-use lib.Dec.{eqb, leb}
+use lib.Dec.{leb}
 use lib.ListN.{length, getD, set, length-set}
 use lib.Seq.{getD-set-same, getD-set-other}
-use Rattle.scope.specs.Base.{one, sumBelow}
+use Rattle.scope.specs.Base.{sumBelow}
 use Rattle.scope.specs.Refusals.{refuseIf, _andThen_, inOrder}
 use Rattle.scope.specs.Geometry.{planeCount, slicesPerPlane, sliceCount}
 use Rattle.scope.specs.Layout as lay
-use Rattle.scope.specs.Layout.{planeIndex, namedBefore, placeInPlane}
+use Rattle.scope.specs.Layout.{planeIndex, namedBefore}
 use Rattle.scope.specs.Frame as frm
 use Rattle.scope.specs.Frame.{indexCheck}
 use Rattle.scope.specs.declared.Geometry.{Geometry}
 use Rattle.scope.specs.declared.Place.the-variants.{Slice}
-use Rattle.scope.specs.declared.Answer.{Answer}
 use Rattle.scope.specs.declared.Answer.the-variants.{Done, Refused}
 use Rattle.figures.proofs.Counts.{all-full, sum-one-more, sum-none}
-use Rattle.layout.proofs.InOrder.{none-yet, one-passed, one-refused, each-passed}
+use Rattle.figures.proofs.InOrder.{none-yet, one-passed, one-refused, each-passed}
 use Rattle.figures.proofs.Places.{planes-most}
 
 -- the array of counts
@@ -38,10 +37,12 @@ module _ (frame : List ℕ) (g : Geometry) where
   both-passed true b n m e = (cc, cc)
   both-passed false true n m e = (cc, cc)
 
+  -- a slice that passed names a plane
   pub index-below : (s : ℕ) → Done ≡ indexCheck frame g s → planeIndex frame g s < planeCount g
   unfolding frm.indexCheck lay.placeInPlane
   index-below s e = leb-false _ _ (both-passed (leb (planeCount g) (planeIndex frame g s)) (leb (slicesPerPlane g) (namedBefore frame g (planeIndex frame g s) s)) 8 s e .0)
 
+  -- which has room for it
   pub index-room : (s : ℕ) → Done ≡ indexCheck frame g s → namedBefore frame g (planeIndex frame g s) s < slicesPerPlane g
   unfolding frm.indexCheck lay.placeInPlane
   index-room s e = leb-false _ _ (both-passed (leb (planeCount g) (planeIndex frame g s)) (leb (slicesPerPlane g) (namedBefore frame g (planeIndex frame g s) s)) 8 s e .1)
@@ -51,6 +52,7 @@ module _ (frame : List ℕ) (g : Geometry) where
   unfolding lay.namedBefore
   named-here s = rw (eq-eqb (planeIndex frame g s) (planeIndex frame g s) refl) (omega arith)
 
+  -- no other plane has one more
   pub named-other : (p s : ℕ) → (p ≡ planeIndex frame g s → ⊥) → namedBefore frame g p (suc s) ≡ namedBefore frame g p s
   unfolding lay.namedBefore
   named-other p s ne = rw (ne-eqb (planeIndex frame g s) p (λ z. ne (sym z))) (omega arith)
@@ -83,6 +85,7 @@ module _ (frame : List ℕ) (g : Geometry) where
   unfolding lay.namedBefore
   counted-none seen e h = record { counts = λ p l. h p; four = e }
 
+  -- one slice counted
   pub counted-more : (seen : List ℕ) (s q : ℕ) → q ≡ planeIndex frame g s → q < 4 → Counted frame g seen s → Counted frame g (set seen q (getD seen q 0 + 1)) (s + 1)
   counted-more seen s q eq l c =
       record { counts = λ p h. go p h (ℕ-discrete p q); four = simp length-set (c .four) }
@@ -95,17 +98,20 @@ module _ (frame : List ℕ) (g : Geometry) where
       go p h (no e) =
           rw (getD-set-other seen q p (getD seen q 0 + 1) 0 e, add-one s, named-other p s (rw eq at e)) (c .counts p h)
 
-zeros : (p : ℕ) → _≡_ {A = ℕ} (getD (0 ∷ 0 ∷ 0 ∷ 0 ∷ []) p 0) 0
-zeros zero = refl
-zeros (suc zero) = refl
-zeros (suc (suc zero)) = refl
-zeros (suc (suc (suc zero))) = refl
-zeros (suc (suc (suc (suc p)))) = refl
+-- four zeros, as a loop's array of counts starts
+pub four-zeros : (p : ℕ) → _≡_ {A = ℕ} (getD (0 ∷ 0 ∷ 0 ∷ 0 ∷ []) p 0) 0
+four-zeros zero = refl
+four-zeros (suc zero) = refl
+four-zeros (suc (suc zero)) = refl
+four-zeros (suc (suc (suc zero))) = refl
+four-zeros (suc (suc (suc (suc p)))) = refl
 
 module _ (frame : List ℕ) (g : Geometry) where
+  -- four zeros count none
   pub counted-start : Counted frame g (0 ∷ 0 ∷ 0 ∷ 0 ∷ []) 0
-  counted-start = counted-none frame g (0 ∷ 0 ∷ 0 ∷ 0 ∷ []) refl zeros
+  counted-start = counted-none frame g (0 ∷ 0 ∷ 0 ∷ 0 ∷ []) refl four-zeros
 
+  -- the byte that is read is the index
   pub index-is : (s t r : ℕ) → t ≡ sliceCount g → r ≡ getD frame (32 + 4 * (t + 1) + 1 + s) 0 → r ≡ planeIndex frame g s
   unfolding lay.planeIndex
   index-is s t r e h = rw e at h
@@ -122,6 +128,7 @@ pub record Walk (frame : List ℕ) (g : Geometry) (planes k t : ℕ) (seen : Lis
   pub slices-are : t ≡ sliceCount g
 
 module _ (frame : List ℕ) (g : Geometry) (planes k t : ℕ) where
+  -- before the first slice
   pub walk-start : planes ≡ planeCount g → k ≡ slicesPerPlane g → t ≡ sliceCount g → Walk frame g planes k t (0 ∷ 0 ∷ 0 ∷ 0 ∷ []) 0
   walk-start ep ek et =
       record {
@@ -136,12 +143,14 @@ module _ (frame : List ℕ) (g : Geometry) (planes k t : ℕ) where
       }
 
   module _ (seen : List ℕ) (s : ℕ) (w : Walk frame g planes k t seen s) where
+    -- past the last one
     pub walk-end : t ≤ s → Done ≡ inOrder (sliceCount g) (indexCheck frame g)
     walk-end h =
         let z : s ≡ sliceCount g = omega (arith, w .within, w .slices-are) in
         rw z at (w .passed)
 
     module _ (p : ℕ) (ls : s < t) (ei : p ≡ planeIndex frame g s) where
+      -- a slice that names no plane
       pub walk-no-plane : planes ≤ p → Refused 8 (Slice s) ≡ inOrder (sliceCount g) (indexCheck frame g)
       unfolding frm.indexCheck lay.placeInPlane
       walk-no-plane h =
@@ -152,12 +161,14 @@ module _ (frame : List ℕ) (g : Geometry) (planes k t : ℕ) where
         so-far : getD seen p 0 ≡ namedBefore frame g (planeIndex frame g s) s
         so-far = let l : p < planeCount g = rw (w .planes-are) at lp in w .counted .counts p l ∙ ap (λ (y : ℕ). namedBefore frame g y s) ei
 
+        -- a slice whose plane has its K
         pub walk-all-there : k ≤ getD seen p 0 → Refused 8 (Slice s) ≡ inOrder (sliceCount g) (indexCheck frame g)
         unfolding frm.indexCheck lay.placeInPlane
         walk-all-there h =
             one-refused (indexCheck frame g) (sliceCount g) s 8 (Slice s) (rw (w .slices-are) at ls) (w .passed)
             (rw (← so-far, ← w .per-plane-is, le-leb k (getD seen p 0) h, ← ei, ← w .planes-are, lt-leb planes p lp))
 
+        -- any other
         pub walk-step : getD seen p 0 < k → Walk frame g planes k t (set seen p (getD seen p 0 + 1)) (s + 1)
         unfolding frm.indexCheck lay.placeInPlane
         walk-step h =

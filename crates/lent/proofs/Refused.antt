@@ -1,7 +1,7 @@
 -- Document 01, "Refusal numbers", 1 to 4: each as src/lib.rt finds it, and what is known once there is none. Assumes nothing.
-use mathlib.Core.Path.{_≡_, refl, sym, ap, _∙_}
+use mathlib.Core.Path.{_≡_, refl, sym, _∙_}
 use mathlib.Core.Bool.{Bool, true, false, not, _&&_, _||_}
-use Prim.Native.Nat.{ℕ, zero, suc, _*_, _%_, _^_, _≤_, _<_}
+use Prim.Native.Nat.{ℕ, _*_, _%_, _^_, _≤_, _<_}
 use native.Mathlib.Omega.{arith}
 use mir.Syntax.{w64}
 use mir.Val.{Fits}
@@ -20,6 +20,7 @@ use Rattle.scope.specs.declared.Place.the-variants.{Nothing}
 use Rattle.scope.specs.declared.Answer.{Answer}
 use Rattle.scope.specs.declared.Answer.the-variants.{Done, Refused}
 use Rattle.figures.specs.Sound.{Sound}
+use Rattle.figures.proofs.InOrder.{first-passed, then-passed, if-passed}
 use Rattle.figures.proofs.Figures.{product-most, few-planes}
 use Rattle.lent.specs.Steps as steps
 use Rattle.lent.specs.Steps.{shapeChecks, sizeChecks}
@@ -30,6 +31,7 @@ use Rattle.lent.specs.Steps.{shapeChecks, sizeChecks}
 pub yes-is : (r t : Bool) → r ≡ t → not r ≡ false → t ≡ true
 yes-is r t e h = sym e ∙ not-false r h
 
+-- the same, found false
 pub no-is : (r t : Bool) → r ≡ t → not r ≡ true → t ≡ false
 no-is r t e h = sym e ∙ not-true r h
 
@@ -37,15 +39,19 @@ no-is r t e h = sym e ∙ not-true r h
 pub and-first : (a b : Bool) → a ≡ false → false ≡ (a && b)
 and-first a b e = rw e
 
+-- an earlier one of them was false
 pub and-before : (a b : Bool) → false ≡ a → false ≡ (a && b)
 and-before a b e = rw (← e)
 
+-- the first is true: the second settles it
 pub and-second : (a b r : Bool) → a ≡ true → r ≡ b → r ≡ (a && b)
 and-second a b r e h = rw e h
 
+-- the second is false
 pub and-none : (a b : Bool) → a ≡ true → b ≡ false → false ≡ (a && b)
 and-none a b e h = rw (e, h)
 
+-- both are true
 pub and-true : (a b : Bool) → a ≡ true → b ≡ true → (a && b) ≡ true
 and-true a b e h = rw (e, h)
 
@@ -59,39 +65,48 @@ or-either false b P e l r = r e
 
 -- ---- refusal 1
 
+-- a side of 0
 pub size-none : (n : ℕ) → n < 1 → false ≡ sizeFits n
 unfolding geo.sizeFits
 size-none n h = rw (lt-leb 1 n h)
 
+-- any other side is tested against the cap
 pub size-most : (n : ℕ) → 1 ≤ n → leb n 16384 ≡ sizeFits n
 unfolding geo.sizeFits
 size-most n h = rw (le-leb 1 n h)
 
+-- factor 1 always fits
 pub factor-one : (f : Family) (s : ℕ) → s ≡ 1 → true ≡ factorFits f s
 unfolding geo.factorFits
 factor-one f s e = rw (eq-eqb s 1 e)
 
 module _ (f : Family) (s : ℕ) (r : Bool) (h : r ≡ subsampled f) (ne : s ≡ 1 → ⊥) where
+  -- any other is 2 in a subsampled family
   pub factor-two : r ≡ true → eqb s 2 ≡ factorFits f s
   unfolding geo.factorFits
   factor-two t = rw (ne-eqb s 1 ne, ← h, t)
 
+  -- and none in the others
   pub factor-none : r ≡ false → false ≡ factorFits f s
   unfolding geo.factorFits
   factor-none t = rw (ne-eqb s 1 ne, ← h, t)
 
 module _ (deep : Bool) (depth : ℕ) where
+  -- depth 8
   pub depth-8 : deep ≡ false → eqb depth 8 ≡ depthFits deep depth
   depth-8 e = rw e
 
   module _ (e : deep ≡ true) where
+    -- depth 10
     pub depth-10 : depth ≡ 10 → true ≡ depthFits deep depth
     depth-10 h = rw (e, eq-eqb depth 10 h)
 
     module _ (n : depth ≡ 10 → ⊥) where
+      -- depth 12
       pub depth-12 : depth ≡ 12 → true ≡ depthFits deep depth
       depth-12 h = rw (e, ne-eqb depth 10 n, eq-eqb depth 12 h)
 
+      -- depth 14, or none
       pub depth-14 : (depth ≡ 12 → ⊥) → eqb depth 14 ≡ depthFits deep depth
       depth-14 h = rw (e, ne-eqb depth 10 n, ne-eqb depth 12 h)
 
@@ -132,6 +147,10 @@ depth-deep depth e =
     d : depth ≡ 14 → (10 ≤ depth) × (depth ≤ 14)
     d z = omega arith
 
+-- not 8 in particular
+pub depth-not-8 : (depth : ℕ) → depthFits true depth ≡ true → depth ≡ 8 → ⊥
+depth-not-8 depth e h = omega (arith, depth-deep depth e)
+
 -- and the one for depth 8 takes 8 alone
 pub depth-shallow : (depth : ℕ) → depthFits false depth ≡ true → depth ≡ 8
 depth-shallow depth e = eqb-true depth 8 e
@@ -149,6 +168,7 @@ pub record Fitting (deep : Bool) (g : Geometry) : Type 0 where
   pub down : (1 ≤ g .sy) × (g .sy ≤ 2)
   pub depth : depthFits deep (g .depth) ≡ true
 
+-- every rule of it
 pub fitting : (deep : Bool) (g : Geometry) → geometryFits deep g ≡ true → Fitting deep g
 unfolding geo.geometryFits
 fitting deep g e =
@@ -174,31 +194,38 @@ fitting deep g e =
 -- ---- refusals 1 to 3
 
 module _ (deep : Bool) (g : Geometry) where
+  -- refusal 1
   pub shape-1 : (r : Bool) → r ≡ geometryFits deep g → not r ≡ true → Refused 1 Nothing ≡ shapeChecks deep g
   unfolding steps.shapeChecks
   shape-1 r e t = rw (no-is r _ e t)
 
   module _ (a : Bool) (ea : a ≡ geometryFits deep g) (ta : not a ≡ false) where
+    -- no division by 0: sx
     pub across-some : 1 ≤ g .sx
     across-some = fitting deep g (yes-is a _ ea ta) .across .0
 
+    -- nor by sy
     pub down-some : 1 ≤ g .sy
     down-some = fitting deep g (yes-is a _ ea ta) .down .0
 
+    -- refusal 2 of the width
     pub shape-2w : (r : Bool) → r ≡ eqb (g .width % g .sx) 0 → not r ≡ true → Refused 2 Nothing ≡ shapeChecks deep g
     unfolding steps.shapeChecks geo.factorsDivide
     shape-2w r e t = rw (yes-is a _ ea ta, no-is r _ e t)
 
     module _ (b : Bool) (eb : b ≡ eqb (g .width % g .sx) 0) (tb : not b ≡ false) where
+      -- refusal 2 of the height
       pub shape-2h : (r : Bool) → r ≡ eqb (g .height % g .sy) 0 → not r ≡ true → Refused 2 Nothing ≡ shapeChecks deep g
       unfolding steps.shapeChecks geo.factorsDivide
       shape-2h r e t = rw (yes-is a _ ea ta, yes-is b _ eb tb, no-is r _ e t)
 
       module _ (d : Bool) (ed : d ≡ eqb (g .height % g .sy) 0) (td : not d ≡ false) where
+        -- refusal 3
         pub shape-3 : (r : Bool) → r ≡ eqb (g .«slice_height» % g .sy) 0 → not r ≡ true → Refused 3 Nothing ≡ shapeChecks deep g
         unfolding steps.shapeChecks geo.factorsDivide geo.sliceHeightDivides
         shape-3 r e t = rw (yes-is a _ ea ta, yes-is b _ eb tb, yes-is d _ ed td, no-is r _ e t)
 
+        -- none of the three
         pub shape-0 : (r : Bool) → r ≡ eqb (g .«slice_height» % g .sy) 0 → not r ≡ false → Done ≡ shapeChecks deep g
         unfolding steps.shapeChecks geo.factorsDivide geo.sliceHeightDivides
         shape-0 r e t = rw (yes-is a _ ea ta, yes-is b _ eb tb, yes-is d _ ed td, yes-is r _ e t)
@@ -207,20 +234,11 @@ pub ruleset shapes = (shape-1, shape-2w, shape-2h, shape-3, shape-0, across-some
 
 -- ---- what a geometry is that passed them
 
--- a check that passed, and a chain of checks that passed
-passed : (t : Bool) (n : ℕ) (w : Place) → refuseIf (not t) n w ≡ Done → t ≡ true
-passed true n w e = refl
-passed false n w e = cc
+-- a test that refused nothing where it is false is true
+passed : (t : Bool) (n : ℕ) (w : Place) → Done ≡ refuseIf (not t) n w → t ≡ true
+passed t n w e = not-false t (if-passed (not t) n w e)
 
-first-passed : (a b : Answer) → (a andThen b) ≡ Done → a ≡ Done
-first-passed Done b e = refl
-first-passed (Refused n w) b e = e
-
-then-passed : (a b : Answer) → (a andThen b) ≡ Done → b ≡ Done
-then-passed Done b e = e
-then-passed (Refused n w) b e = cc
-
-module _ (deep : Bool) (g : Geometry) (e : shapeChecks deep g ≡ Done) where
+module _ (deep : Bool) (g : Geometry) (e : Done ≡ shapeChecks deep g) where
   one : Answer
   one = refuseIf (not (geometryFits deep g)) 1 Nothing
 
@@ -265,26 +283,30 @@ module _ (deep : Bool) (g : Geometry) (e : shapeChecks deep g ≡ Done) where
 
 -- the same as the code has it
 pub sound-told : (deep : Bool) (g : Geometry) (r : Answer) → r ≡ shapeChecks deep g → r ≡ Done → Sound g
-sound-told deep g r e h = shape-sound deep g (sym e ∙ h)
+sound-told deep g r e h = shape-sound deep g (sym h ∙ e)
 
 -- ---- refusal 4
 
 module _ (g : Geometry) (lengthsLen planesLen p n : ℕ) (ep : p ≡ planeCount g) (en : n ≡ 2 ^ g .depth) where
+  -- P·2^depth fits 64 bits
   pub lengths-fit : n ≤ 16384 → Fits w64 (p * n)
   lengths-fit h = record { fits = omega (arith, product-most p n 4 16384 (few-planes g p ep) h) }
 
   lens : p * n ≡ planeCount g * 2 ^ g .depth
   lens = rw (ep, en)
 
+  -- refusal 4 of the lengths
   pub size-4l : (lengthsLen ≡ p * n → ⊥) → Refused 4 Nothing ≡ sizeChecks g lengthsLen planesLen
   unfolding steps.sizeChecks
   size-4l ne = rw (← lens, ne-eqb lengthsLen (p * n) ne)
 
   module _ (el : lengthsLen ≡ p * n) (q : ℕ) (eq : q ≡ allSamples g) where
+    -- refusal 4 of the plane buffer
     pub size-4p : (planesLen ≡ q → ⊥) → Refused 4 Nothing ≡ sizeChecks g lengthsLen planesLen
     unfolding steps.sizeChecks
     size-4p ne = rw (← lens, eq-eqb lengthsLen (p * n) el, ← eq, ne-eqb planesLen q ne)
 
+    -- neither
     pub size-0 : planesLen ≡ q → Done ≡ sizeChecks g lengthsLen planesLen
     unfolding steps.sizeChecks
     size-0 h = rw (← lens, eq-eqb lengthsLen (p * n) el, ← eq, eq-eqb planesLen q h)
@@ -312,20 +334,22 @@ module _ (deep : Bool) (g : Geometry) (lengthsLen planesLen : ℕ) where
   pub lent-early : (a : Answer) (n : ℕ) (w : Place) → a ≡ shapeChecks deep g → a ≡ Refused n w → Refused n w ≡ lentChecks deep g lengthsLen planesLen
   lent-early a n w e h = rw (lent-steps, ← e, h)
 
+  -- the second step's answer is the answer
   pub lent-late : (a b : Answer) → a ≡ shapeChecks deep g → a ≡ Done → b ≡ sizeChecks g lengthsLen planesLen → b ≡ lentChecks deep g lengthsLen planesLen
   lent-late a b e h k = rw (lent-steps, ← e, h) k
 
-  module _ (e : lentChecks deep g lengthsLen planesLen ≡ Done) where
+  module _ (e : Done ≡ lentChecks deep g lengthsLen planesLen) where
     -- what is known once none of 1 to 4 applies: the geometry is sound, and of a depth that the entry serves
     pub lent-sound : Sound g
-    lent-sound = shape-sound deep g (first-passed (shapeChecks deep g) _ (sym lent-steps ∙ e))
+    lent-sound = shape-sound deep g (first-passed (shapeChecks deep g) _ (e ∙ lent-steps))
 
+    -- of a depth that the entry serves
     pub lent-depth : depthFits deep (g .depth) ≡ true
-    lent-depth = shape-depth deep g (first-passed (shapeChecks deep g) _ (sym lent-steps ∙ e))
+    lent-depth = shape-depth deep g (first-passed (shapeChecks deep g) _ (e ∙ lent-steps))
 
     sizes-passed : (eqb lengthsLen (planeCount g * 2 ^ g .depth) && eqb planesLen (allSamples g)) ≡ true
     unfolding steps.sizeChecks
-    sizes-passed = passed _ 4 Nothing (then-passed (shapeChecks deep g) _ (sym lent-steps ∙ e))
+    sizes-passed = passed _ 4 Nothing (then-passed (shapeChecks deep g) _ (e ∙ lent-steps))
 
     -- the lengths are P·2^depth
     pub lent-lengths : lengthsLen ≡ planeCount g * 2 ^ g .depth

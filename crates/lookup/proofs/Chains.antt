@@ -53,6 +53,7 @@ module _ (look : ℕ → Found) (at n : ℕ) (out : List ℕ) where
 
 -- ---- n words, and then k more
 
+-- one chain, and then another
 unfoldable pub joined : Chain → Chain → Chain
 joined (symbols ss) c = then ss c
 joined (stuckAt p) c = stuckAt p

@@ -16,10 +16,12 @@ past-end words i h = sym (List·getD-eq-default words 0 h)
 
 -- ---- what a workspace word says
 
+-- an unfilled slot
 pub says-none : (e : ℕ) → e % 256 ≡ 0 → NoWord ≡ unpacked e
 unfolding unpacked
 says-none e h = sym (simp (eq-eqb _ _ h))
 
+-- a word's length and symbol
 pub says-word : (e : ℕ) → (e % 256 ≡ 0 → ⊥) → Word (e % 256) (e / 256) ≡ unpacked e
 unfolding unpacked
 says-word e h = sym (simp (ne-eqb _ _ h))

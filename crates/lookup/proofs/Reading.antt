@@ -43,6 +43,7 @@ pub record Reads (look : ℕ → Found) (limit at n : ℕ) (out : List ℕ) (p k
   pub due : then (take k out) (chainBy look p (n - k)) ≡ chainBy look at n
   pub place : positionAfter look p (n - k) ≡ positionAfter look at n
 
+-- before the first word
 pub reads-start : (look : ℕ → Found) (limit at : ℕ) (out : List ℕ) → Readable look limit at (length out)
     → Reads look limit at (length out) out at 0
 reads-start look limit at out ok = record {
@@ -75,6 +76,7 @@ module _ (look : ℕ → Found) (limit at n : ℕ) (out : List ℕ) (p k : ℕ) 
       unfolding positionAfter onward
       place-turn = rw (left, found) refl
 
+      -- one word is read
       pub reads-step : Reads look limit at n (set out k s) (p + l) (k + 1)
       reads-step = record {
         within = omega (arith, d .long);
@@ -101,6 +103,7 @@ module _ (look : ℕ → Found) (limit at n : ℕ) (out : List ℕ) (p k : ℕ) 
         let a : then (take k out) (chainBy look p (n - k)) ≡ stuckAt p = rw (left, g) in
         sym (d .due) ∙ a
 
+    -- the reading is stuck at p
     pub reads-stuck : o ≡ NoWord → (out′ : List ℕ) → WordsRead look at n (Stuck p) out′
     unfolding reached
     reads-stuck f out′ = record {
@@ -123,6 +126,7 @@ module _ (look : ℕ → Found) (limit at n : ℕ) (out : List ℕ) (p k : ℕ) 
       let a : positionAfter look p (n - k) ≡ p = rw z in
       sym a ∙ d .place
 
+  -- the reading ends at p
   pub reads-end : length out ≤ k → WordsRead look at n (End p) out
   unfolding reached
   reads-end h = record {
@@ -133,6 +137,7 @@ module _ (look : ℕ → Found) (limit at n : ℕ) (out : List ℕ) (p k : ℕ) 
       same : (ss : List ℕ) → symbols out ≡ symbols ss → out ≡ ss
       same ss g = cc
 
+  -- the next place is a number of 64 bits
   pub reads-within : k < length out → Fits w64 (k + 1)
   reads-within h = record { fits = omega (arith, d .long, d .asked .near) }
 
@@ -140,6 +145,7 @@ module _ (look : ℕ → Found) (limit at n : ℕ) (out : List ℕ) (p k : ℕ) 
 pub fits-u16 : (s : ℕ) → s < 2 ^ 16 → Fits w16 s
 fits-u16 s h = record { fits = h }
 
+-- and the same for bytes
 pub fits-u8 : (s : ℕ) → s < 2 ^ 8 → Fits w8 s
 fits-u8 s h = record { fits = h }
 

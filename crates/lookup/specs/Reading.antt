@@ -9,6 +9,7 @@ use Rattle.scope.specs.declared.Found.the-variants.{Word, NoWord}
 use Rattle.lookup.specs.declared.Reached.{Reached}
 use Rattle.lookup.specs.declared.Reached.the-variants.{End, Stuck}
 
+-- on from a word that is found, by its length
 unfoldable pub onward : Found → ℕ → (ℕ → ℕ) → ℕ
 onward NoWord at go = at
 onward (Word l s) at go = go (at + l)

@@ -1,10 +1,9 @@
 -- Each plane's lengths as a part of those lent (document 01, "Lengths: 2^depth bytes a plane, planes in wire order"), and the loop
 -- that finds the shortest of each. Assumes nothing.
 use mathlib.Core.Path.{_≡_, refl, sym, ap, _∙_}
-use Prim.Native.Nat.{ℕ, zero, suc, _+_, _-_, _*_, _^_, _≤_, _<_}
+use Prim.Native.Nat.{ℕ, suc, _+_, _-_, _*_, _^_, _≤_, _<_}
 use native.Mathlib.Nat.{mul-le-mul-right, suc-mul}
 use native.Mathlib.Decide.{ℕ-discrete, decLe}
-use native.Mathlib.Numerals.{add-one}
 use native.Mathlib.Omega.{arith}
 use mathlib.Core.List.{List, [], _∷_}
 use mir.Syntax.{w64}
@@ -12,15 +11,14 @@ use mir.Val.{Fits}
 use borrow.Author.Needs.{needs}
 use lib.ListN.{length, getD, take, drop, set, length-set, length-take, length-drop, drop-of-length-le}
 use lib.Seq.{getD-set-same, getD-set-other, take-nil, ext-getD}
-use lib.Pow.{pow-mono}
 use Rattle.scope.specs.Geometry as geo
 use Rattle.scope.specs.Geometry.{planeCount, lengthsOf}
 use Rattle.scope.specs.Words as words
 use Rattle.scope.specs.Words.{shortest}
 use Rattle.scope.specs.declared.Geometry.{Geometry}
-use Rattle.figures.specs.Sound.{Sound}
 use Rattle.figures.proofs.Places.{planes-most}
 use Rattle.figures.proofs.Figures.{samples-most}
+use Rattle.layout.proofs.Slices.{four-zeros}
 use Rattle.slices.specs.Sizes.{Shortests}
 
 -- plane p's part of the lent lengths, n each
@@ -43,12 +41,15 @@ module _ (g : Geometry) (lengths : List ℕ) (p n : ℕ) (el : length lengths �
     all-small : length lengths ≤ 268435456
     all-small = omega (arith, together, samples-most (planeCount g) n (omega (arith, planes-most (g .family))) h)
 
+    -- its start fits 64 bits
     pub part-start-fits : Fits w64 (p * n)
     part-start-fits = record { fits = omega (arith, part-room, all-small) }
 
+    -- and so does its end
     pub part-end-fits : Fits w64 (p * n + n)
     part-end-fits = record { fits = omega (arith, part-room, all-small) }
 
+    -- it is at most 16,384 long
     pub part-length : length (take (p * n + n - p * n) (drop (p * n) lengths)) ≤ 16384
     part-length =
         let e : p * n + n - p * n ≡ n = omega arith in
@@ -79,30 +80,26 @@ pub record Found (g : Geometry) (lengths : List ℕ) (planes : ℕ) (at : List �
   pub within : p ≤ planes
   pub few : planes ≤ 4
 
-zeros : (p : ℕ) → _≡_ {A = ℕ} (getD (0 ∷ 0 ∷ 0 ∷ 0 ∷ []) p 0) 0
-zeros zero = refl
-zeros (suc zero) = refl
-zeros (suc (suc zero)) = refl
-zeros (suc (suc (suc zero))) = refl
-zeros (suc (suc (suc (suc p)))) = refl
-
 module _ (g : Geometry) (lengths : List ℕ) (planes : ℕ) where
+  -- none is found yet
   pub found-start : length lengths ≡ planeCount g * 2 ^ g .depth → planes ≡ planeCount g → Found g lengths planes (0 ∷ 0 ∷ 0 ∷ 0 ∷ []) 0
   found-start el ep = record {
     planes-are = ep;
     whole = el;
     made = λ q l. absurd (omega arith);
-    rest = λ q l. zeros q;
-    small = λ q. rw (zeros q) (omega arith);
+    rest = λ q l. four-zeros q;
+    small = λ q. rw (four-zeros q) (omega arith);
     four = refl;
     within = omega arith;
     few = rw ep (planes-most (g .family));
   }
 
   module _ (at : List ℕ) (p : ℕ) (w : Found g lengths planes at p) where
+    -- plane p is one of them
     pub found-below : p < planes → p < planeCount g
     found-below l = rw (w .planes-are) at l
 
+    -- one more
     pub found-step : (r : ℕ) → p < planes → r ≡ shortest (lengthsOf g lengths p) → r < 256 → Found g lengths planes (set at p r) (p + 1)
     found-step r l e b = record {
       planes-are = w .planes-are;
@@ -126,6 +123,7 @@ module _ (g : Geometry) (lengths : List ℕ) (planes : ℕ) where
         small q (yes z) = rw (z, getD-set-same at p r 0 inside) b
         small q (no z) = rw (getD-set-other at p q r 0 z) (w .small q)
 
+    -- all of them
     pub found-all : planes ≤ p → Shortests g lengths at
     found-all h = record {
       each = λ q l. each q (decLe (suc q) planes);

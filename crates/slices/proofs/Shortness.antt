@@ -1,7 +1,7 @@
 -- The shortest length of a plane (document 01, "b is .. the plane's shortest word"), as one pass over the lengths finds it, and that
 -- there is none exactly where there is no longest. Assumes nothing.
 use mathlib.Core.Path.{_≡_, refl, sym, ap, _∙_}
-use Prim.Native.Nat.{ℕ, zero, suc, _+_, _-_, _≤_, _<_, min, max}
+use Prim.Native.Nat.{ℕ, zero, suc, _+_, _≤_, _<_, min}
 use native.Mathlib.Numerals.{add-one}
 use native.Mathlib.Omega.{arith}
 use mathlib.Core.List.{List, [], _∷_}
@@ -13,10 +13,12 @@ use Rattle.scope.specs.Words.{longest, shorter, shortest}
 
 -- ---- the shorter of two
 
+-- no length leaves the other
 pub shorter-none : (b : ℕ) → shorter 0 b ≡ b
 unfolding words.shorter
 shorter-none b = refl
 
+-- on either side
 pub shorter-zero : (a : ℕ) → shorter a 0 ≡ a
 unfolding words.shorter
 shorter-zero zero = refl
@@ -32,12 +34,15 @@ shorter-min (suc a) (suc b) h k = refl
 pub shorter-left : (a b : ℕ) → (a ≡ 0 → ⊥) → (b ≡ 0 → ⊥) → a < b → a ≡ shorter a b
 shorter-left a b h k l = sym (shorter-min a b h k ∙ omega arith)
 
+-- the second is not longer
 pub shorter-right : (a b : ℕ) → (a ≡ 0 → ⊥) → (b ≡ 0 → ⊥) → b ≤ a → b ≡ shorter a b
 shorter-right a b h k l = sym (shorter-min a b h k ∙ omega arith)
 
+-- the first is none
 pub shorter-second : (a b : ℕ) → a ≡ 0 → b ≡ shorter a b
 shorter-second a b e = rw e (sym (shorter-none b))
 
+-- the second is none
 pub shorter-first : (a b : ℕ) → b ≡ 0 → a ≡ shorter a b
 shorter-first a b e = rw e (sym (shorter-zero a))
 
@@ -69,10 +74,12 @@ pub record Passing (ls : List ℕ) (m i : ℕ) : Type 0 where
   pub small : m < 256
 
 module _ (ls : List ℕ) where
+  -- before the first length
   pub passing-start : Passing ls 0 0
   passing-start = record { left = shorter-none (shortest ls); within = omega arith; small = omega arith }
 
   module _ (m i : ℕ) (w : Passing ls m i) where
+    -- one length more
     pub passing-step : (x r : ℕ) → i < length ls → x ≡ getD ls i 0 → r ≡ shorter m x → r < 256 → Passing ls r (i + 1)
     unfolding words.shortest
     passing-step x r h e k l =
@@ -83,6 +90,7 @@ module _ (ls : List ℕ) where
           small = l;
         }
 
+    -- all of them
     pub passing-end : length ls ≤ i → m ≡ shortest ls
     unfolding words.shortest
     passing-end h = sym (shorter-zero m) ∙ ap (λ (l : List ℕ). shorter m (shortest l)) (sym (drop-of-length-le ls {i = i} h)) ∙ w .left
@@ -99,6 +107,7 @@ shortest-none (l ∷ ls) e =
     let c : longest ls ≡ 0 = shortest-none ls b in
     omega arith
 
+-- and the other way round
 pub longest-none : (ls : List ℕ) → longest ls ≡ 0 → shortest ls ≡ 0
 unfolding words.shortest words.longest
 longest-none [] e = refl

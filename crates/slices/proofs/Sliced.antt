@@ -1,9 +1,9 @@
 -- Document 01, "Refusal numbers", 12 to 14 of a slice before any is read: each as src/lib.rt finds it, and what is known of a slice
 -- that has none. Assumes nothing.
-use mathlib.Core.Path.{_≡_, refl, sym, ap, _∙_}
-use mathlib.Core.Bool.{Bool, true, false, cond, not, _&&_}
+use mathlib.Core.Path.{_≡_, sym, ap, _∙_}
+use mathlib.Core.Bool.{Bool, true, false, not, _&&_}
 use mathlib.Core.List.{List}
-use Prim.Native.Nat.{ℕ, zero, suc, _+_, _-_, _*_, _/_, _%_, _^_, _≤_, _<_}
+use Prim.Native.Nat.{ℕ, _+_, _-_, _*_, _/_, _%_, _≤_, _<_}
 use native.Mathlib.Nat.{mul-le-mul}
 use native.Mathlib.Omega.{arith}
 use mir.Syntax.{w64}
@@ -16,18 +16,17 @@ use Rattle.scope.specs.Base.{overUp}
 use Rattle.scope.specs.Refusals.{refuseIf, _andThen_, inOrder}
 use Rattle.scope.specs.Geometry.{planeCount, sliceCount, planeWidth, rowsAt, lengthsOf}
 use Rattle.scope.specs.Layout as lay
-use Rattle.scope.specs.Layout.{planeIndex, namedBefore, placeInPlane, sliceStart, sliceEnd, isRaw, samplesIn}
+use Rattle.scope.specs.Layout.{planeIndex, sliceStart, sliceEnd, isRaw, samplesIn}
 use Rattle.scope.specs.Words.{longest, shortest}
 use Rattle.scope.specs.Frame as frm
 use Rattle.scope.specs.Frame.{sliceLengths, fewestBytes, sliceCheck}
 use Rattle.scope.specs.declared.Geometry.{Geometry}
-use Rattle.scope.specs.declared.Place.{Place}
 use Rattle.scope.specs.declared.Place.the-variants.{Slice, Plane}
 use Rattle.scope.specs.declared.Answer.{Answer}
 use Rattle.scope.specs.declared.Answer.the-variants.{Done, Refused}
 use Rattle.figures.proofs.Places.{planes-most}
 use Rattle.layout.specs.Placed.{Placed}
-use Rattle.layout.proofs.InOrder.{first-passed, then-passed, if-passed, each-passed}
+use Rattle.figures.proofs.InOrder.{first-passed, then-passed, if-passed, each-passed}
 use Rattle.slices.specs.Sizes as sizes
 use Rattle.slices.specs.Sizes.{sizeCheck, Shortests}
 use Rattle.slices.proofs.Shortness.{shortest-none, longest-none}
@@ -40,16 +39,20 @@ module _ (samples bits : ℕ) (ls : samples ≤ 268435456) (lb : bits < 256) whe
       let k : bits ≤ 256 = omega arith in
       mul-le-mul ls k
 
+  -- a slice's bits fit 64 bits
   pub bits-fit : Fits w64 (samples * bits)
   bits-fit = record { fits = omega (arith, bits-most) }
 
+  -- and so does what is rounded
   pub rounded-fit : Fits w64 (samples * bits + 7)
   rounded-fit = record { fits = omega (arith, bits-most) }
 
+-- too few bytes
 pub size-short : (s bytes samples bits : ℕ) → bytes < (samples * bits + 7) / 8 → Refused 12 (Slice s) ≡ sizeCheck s bytes samples bits
 unfolding sizes.sizeCheck
 size-short s bytes samples bits h = rw (lt-ltb bytes (overUp (samples * bits) 8) h)
 
+-- enough
 pub size-enough : (s bytes samples bits : ℕ) → (samples * bits + 7) / 8 ≤ bytes → Done ≡ sizeCheck s bytes samples bits
 unfolding sizes.sizeCheck
 size-enough s bytes samples bits h = rw (le-ltb bytes (overUp (samples * bits) 8) h)
@@ -59,16 +62,19 @@ pub ruleset sizings = (bits-fit, rounded-fit, size-short, size-enough, needs)
 -- ---- one slice: each section has one test more behind it
 
 module _ (frame : List ℕ) (g : Geometry) (lengths : List ℕ) (s from to : ℕ) (ef : from ≡ sliceStart frame g s) (et : to ≡ sliceEnd frame g s) where
+  -- 12: it ends before its start
   pub slice-12a : to < from → Refused 12 (Slice s) ≡ sliceCheck frame g lengths s
   unfolding frm.sliceCheck
   slice-12a h = rw (← ef, ← et, lt-ltb to from h)
 
   module _ (l1 : from ≤ to) where
+    -- 12: or past the frame
     pub slice-12b : length frame < to → Refused 12 (Slice s) ≡ sliceCheck frame g lengths s
     unfolding frm.sliceCheck
     slice-12b h = rw (← ef, ← et, le-ltb to from l1, lt-ltb (length frame) to h)
 
     module _ (l2 : to ≤ length frame) where
+      -- refusal 13
       pub slice-13 : to < from + 2 → Refused 13 (Slice s) ≡ sliceCheck frame g lengths s
       unfolding frm.sliceCheck
       slice-13 h = rw (← ef, ← et, le-ltb to from l1, le-ltb (length frame) to l2, lt-ltb to (from + 2) h)
@@ -86,6 +92,7 @@ module _ (frame : List ℕ) (g : Geometry) (lengths : List ℕ) (s from to : ℕ
         unfolding frm.sliceCheck
         inside = rw (← ef, ← et, le-ltb to from l1, le-ltb (length frame) to l2, le-ltb to (from + 2) l3)
 
+        -- a raw slice: its size at the depth
         pub slice-raw : (r : Answer) → flag % 2 ≡ 1 → r ≡ sizeCheck s (to - (from + 2)) n (g .depth) → r ≡ sliceCheck frame g lengths s
         unfolding frm.fewestBytes lay.isRaw sizes.sizeCheck
         slice-raw r h e = rw (inside, ← flag-is, eq-eqb (flag % 2) 1 h, ← samples-are) e
@@ -94,12 +101,14 @@ module _ (frame : List ℕ) (g : Geometry) (lengths : List ℕ) (s from to : ℕ
           short-is : b ≡ shortest (sliceLengths frame g lengths s)
           short-is = es ∙ ap (λ (q : ℕ). shortest (lengthsOf g lengths q)) (pl .plane)
 
+          -- 14: coded, and its plane has no word
           pub slice-14 : b ≡ 0 → Refused 14 (Plane p) ≡ sliceCheck frame g lengths s
           unfolding lay.isRaw
           slice-14 z =
               let none : longest (sliceLengths frame g lengths s) ≡ 0 = shortest-none (sliceLengths frame g lengths s) (sym short-is ∙ z) in
               rw (inside, ← flag-is, ne-eqb (flag % 2) 1 coded, none, ← pl .plane)
 
+          -- a coded slice: its size at the shortest word
           pub slice-coded : (r : Answer) → (b ≡ 0 → ⊥) → r ≡ sizeCheck s (to - (from + 2)) n b → r ≡ sliceCheck frame g lengths s
           unfolding frm.fewestBytes lay.isRaw sizes.sizeCheck
           slice-coded r z e =
@@ -175,8 +184,10 @@ slice-passed frame g lengths s t l e h = each-passed (sliceCheck frame g lengths
 -- ---- the shortest length of the plane of a slice
 
 module _ (g : Geometry) (lengths at : List ℕ) (w : Shortests g lengths at) (p : ℕ) (l : p < planeCount g) where
+  -- what was found once is its plane's
   pub short-at : getD at p 0 ≡ shortest (lengthsOf g lengths p)
   short-at = w .each p (omega (arith, planes-most (g .family)))
 
+  -- and is a byte
   pub short-small : getD at p 0 < 256
   short-small = w .small p (omega (arith, planes-most (g .family)))

@@ -29,24 +29,29 @@ use Rattle.words.proofs.Weighing.{Passes, need-passes, need-is}
 -- ---- the answer
 
 module _ (ls : List ℕ) (w : ℕ) where
+  -- more than 16,384 lengths
   pub answer-4 : 16384 < length ls → buildAnswer ls w ≡ Refused 4 Nothing
   unfolding buildAnswer
   answer-4 h = simp (lt-ltb _ _ h)
 
   module _ (few : length ls ≤ 16384) where
+    -- a length above 18
     pub answer-9 : tooLong ls ≡ true → buildAnswer ls w ≡ Refused 9 (Plane 0)
     unfolding buildAnswer
     answer-9 a = simp (le-ltb _ _ few, a)
 
+    -- shares that exceed one
     pub answer-10 : tooLong ls ≡ false → overfull ls ≡ true → buildAnswer ls w ≡ Refused 10 (Plane 0)
     unfolding buildAnswer
     answer-10 a b = simp (le-ltb _ _ few, a, b)
 
     module _ (small : longest ls ≤ 18) (full : shares ls ≤ 262144) where
+      -- a workspace shorter than the need
       pub answer-11 : w < need ls → buildAnswer ls w ≡ Refused 11 Nothing
       unfolding buildAnswer tooLong
       answer-11 h = simp (le-ltb _ _ few, le-ltb _ _ small, over-none ls full, lt-ltb _ _ h)
 
+      -- none of these
       pub answer-done : need ls ≤ w → buildAnswer ls w ≡ Done
       unfolding buildAnswer tooLong
       answer-done h = simp (le-ltb _ _ few, le-ltb _ _ small, over-none ls full, le-ltb _ _ h)
@@ -59,10 +64,12 @@ module _ (ls workspace : List ℕ) where
   unfolding workspaceBuilt leftBy
   refused n p e h = record { answer = sym e; workspace = rw e (simp (le-leb _ _ h)) }
 
+  -- more than 16,384 lengths
   pub build-4 : 16384 < length ls → BuiltAlone ls workspace (Refused 4 Nothing) workspace
   build-4 h = refused 4 Nothing (answer-4 ls (length workspace) h) (omega arith)
 
   module _ (few : length ls ≤ 16384) (o : Weighed) (is : o ≡ weighed ls 0) where
+    -- what the lengths get by themselves
     pub build-refused : (n : ℕ) (p : Place) → o ≡ weigh.Refused n p → BuiltAlone ls workspace (Refused n p) workspace
     unfolding weighed
     build-refused n p e = elim (which (tooLong ls)) [
@@ -86,35 +93,39 @@ module _ (ls workspace : List ℕ) where
             let g : Refused k q ≡ Refused n p = cc in
             subst (λ (r : Answer). BuiltAlone ls workspace r workspace) g b
 
-    module _ (n : ℕ) (e : o ≡ weigh.Need n) where
-      passes : Passes ls
-      passes = need-passes ls 0 n (sym is ∙ e)
+  module _ (few : length ls ≤ 16384) (o : Weighed) (plane : ℕ) (is : o ≡ weighed ls plane) (n : ℕ) (e : o ≡ weigh.Need n) where
+    passes : Passes ls
+    passes = need-passes ls plane n (sym is ∙ e)
 
-      size : n ≡ need ls
-      size = need-is ls 0 n (sym is ∙ e)
+    size : n ≡ need ls
+    size = need-is ls plane n (sym is ∙ e)
 
-      pub build-11 : length workspace < n → BuiltAlone ls workspace (Refused 11 Nothing) workspace
-      build-11 h = refused 11 Nothing (answer-11 ls (length workspace) few (passes .small) (passes .full) (omega (arith, size))) (omega arith)
+    -- a workspace shorter than the need
+    pub build-11 : length workspace < n → BuiltAlone ls workspace (Refused 11 Nothing) workspace
+    build-11 h = refused 11 Nothing (answer-11 ls (length workspace) few (passes .small) (passes .full) (omega (arith, size))) (omega arith)
 
-      -- what `build_part` asks
-      pub part-small : longest ls ≤ 18
-      part-small = passes .small
+    -- what `build_part` asks
+    pub part-small : longest ls ≤ 18
+    part-small = passes .small
 
-      pub part-full : shares ls ≤ 262144
-      part-full = passes .full
+    -- and this
+    pub part-full : shares ls ≤ 262144
+    part-full = passes .full
 
-      pub part-size : n - 0 ≡ need ls
-      part-size = sub-zero n ∙ size
+    -- and as many words as the need
+    pub part-size : n - 0 ≡ need ls
+    part-size = sub-zero n ∙ size
 
-      pub build-done : (workspace′ : List ℕ) → n ≤ length workspace → workspace′ ≡ replaced workspace 0 (n - 0) (tableOf ls)
-          → BuiltAlone ls workspace Done workspace′
-      unfolding workspaceBuilt leftBy
-      build-done workspace′ h f =
-          let g : buildAnswer ls (length workspace) ≡ Done = answer-done ls (length workspace) few (passes .small) (passes .full) (omega (arith, size)) in
-          record {
-            answer = sym g;
-            workspace = f ∙ ap (λ (k : ℕ). tableOf ls ++ drop k workspace) part-size ∙ rw g refl;
-          }
+    -- success leaves the table, and the words past it as found
+    pub build-done : (workspace′ : List ℕ) → n ≤ length workspace → workspace′ ≡ replaced workspace 0 (n - 0) (tableOf ls)
+        → BuiltAlone ls workspace Done workspace′
+    unfolding workspaceBuilt leftBy
+    build-done workspace′ h f =
+        let g : buildAnswer ls (length workspace) ≡ Done = answer-done ls (length workspace) few (passes .small) (passes .full) (omega (arith, size)) in
+        record {
+          answer = sym g;
+          workspace = f ∙ ap (λ (k : ℕ). tableOf ls ++ drop k workspace) part-size ∙ rw g refl;
+        }
 
 pub ruleset building = (build-4, build-refused, build-11, part-small, part-full, part-size, build-done, needs)
 
@@ -129,6 +140,7 @@ pub record Good (ls : List ℕ) (w : ℕ) : Type 0 where
 
 -- the four tests, whatever the answer says: where one holds the answer is its refusal, and the lengths are good where none does
 module _ (ls : List ℕ) (w : ℕ) (P : Answer → Type 0) where
+  -- a fact of every refusal, and of success with good lengths, is one of the answer
   pub by-tests : P (Refused 4 Nothing) → P (Refused 9 (Plane 0)) → P (Refused 10 (Plane 0)) → P (Refused 11 Nothing) → (Good ls w → P Done)
       → P (buildAnswer ls w)
   unfolding buildAnswer

@@ -70,6 +70,7 @@ module _ (ls payload samples workspace : List ℕ) (few : length ls ≤ 16384) (
   unfolding workspaceRead
   clears = ap (λ (r : Answer). leftBy 11 r workspace (zeros workspace)) answer-is ∙ cleared workspace the-chain
 
+  -- what demand 3 asks of a reading
   pub reads-chain : ReadsChain ls payload samples workspace
   reads-chain = record {
     succeeds = (there the-chain refl, λ t. found (t .0) (is-chain (t .0) (t .1)) .0);
@@ -81,6 +82,7 @@ module _ (ls payload samples workspace : List ℕ) (few : length ls ≤ 16384) (
 
 -- ---- the whole
 
+-- up to 16,384 lengths of 0 to 18 meet demand 3
 pub demand-3 : (ls : List ℕ) → Lengths ls → Demand3 ls
 demand-3 ls h =
     let m : longest ls ≤ 18 = longest-most ls 18 (h .small) in

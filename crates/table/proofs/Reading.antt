@@ -114,6 +114,7 @@ module _ (ls payload workspace samples : List ℕ) where
         unfolding workspaceBuilt leftBy
         built-table = b .workspace ∙ rw is-done refl
 
+        -- so a reading may follow
         pub built : Built ls workspace₁ (length samples)
         built =
             let g : Good ls (length workspace) = good ls (length workspace) is-done in

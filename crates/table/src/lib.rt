@@ -44,13 +44,11 @@ pub(crate) fn read_built(
     ensures { λ r. ⌜ BuiltRead (now (lengths .entry)) (now (payload .entry)) (now (workspace .entry)) (now (samples .entry)) r (now (workspace .exit)) (now (samples .exit)) ⌝ }
 {
     let m = longest_of(lengths);
-    match words_u16(workspace, m, payload, 0, samples) {
-        Reached::End(end) => {
-            clear_u32(workspace);
-            Answer::Done
-        }
+    let reached = words_u16(workspace, m, payload, 0, samples);
+    clear_u32(workspace);
+    match reached {
+        Reached::End(end) => Answer::Done,
         Reached::Stuck(at) => {
-            clear_u32(workspace);
             clear_u16(samples);
             Answer::Refused(14, Place::Plane(0))
         }

@@ -8,6 +8,7 @@ use Rattle.scope.specs.declared.Place.the-variants.{Plane}
 use Rattle.words.specs.Weigh.{weighed}
 use Rattle.words.specs.declared.Weighed.the-variants.{Need, Refused}
 
+-- one word of each length from 1 to 18
 abbrev pub short : List ℕ
 short = 1 ∷ 2 ∷ 3 ∷ 4 ∷ 5 ∷ 6 ∷ 7 ∷ 8 ∷ 9 ∷ 10 ∷ 11 ∷ 12 ∷ 13 ∷ 14 ∷ 15 ∷ 16 ∷ 17 ∷ 18 ∷ []
 

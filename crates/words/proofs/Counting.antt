@@ -24,6 +24,7 @@ pub record Counted (ls cnt : List ℕ) (i : ℕ) : Type 0 where
   pub many : length cnt ≡ 19
   pub counted : (l : ℕ) → l ≤ 18 → getD cnt l 0 ≡ count l (take i ls)
 
+-- before the first symbol every count is 0
 pub counted-start : (ls : List ℕ) → Counted ls (replicate 19 0) 0
 unfolding count
 counted-start ls = record { within = omega arith; many = refl; counted = λ l g. getD-replicate 19 l 0 0 (omega arith) }
@@ -42,6 +43,7 @@ module _ (ls cnt : List ℕ) (i : ℕ) (h : i < length ls) (b : getD ls i 0 ≤ 
       getD-set-other cnt (getD ls i 0) l (getD cnt (getD ls i 0) 0 + 1) 0 e
       ∙ omega (arith, k .counted l g, one-other (getD ls i 0) l (λ (q : getD ls i 0 ≡ l). e (sym q)))
 
+  -- one symbol more is counted
   pub counted-step : Counted ls (set cnt (getD ls i 0) (getD cnt (getD ls i 0) 0 + 1)) (i + 1)
   counted-step = record {
     within = omega arith;
@@ -49,6 +51,7 @@ module _ (ls cnt : List ℕ) (i : ℕ) (h : i < length ls) (b : getD ls i 0 ≤ 
     counted = λ l g. rw (add-one i, count-next ls i l h) (more l g (ℕ-discrete l (getD ls i 0)));
   }
 
+-- after the last the counts are those of the list
 pub counted-end : (ls cnt : List ℕ) (i : ℕ) → length ls ≤ i → Counted ls cnt i → cnt ≡ listBelow 19 (λ l. count l ls)
 counted-end ls cnt i h k =
     listBelow-only (λ l. count l ls) 19 cnt (k .many)

@@ -57,6 +57,7 @@ zero-at z zero j = refl
 zero-at z (suc n) zero = refl
 zero-at z (suc n) (suc j) = zero-at z n j
 
+-- before the longest length nothing is written, and the running end is all ones
 pub walk-start : (ls : List ℕ) (m : ℕ) → m ≡ longest ls → Walked ls (replicate 19 0) 4294967295 m
 unfolding running
 walk-start ls m e = record {
@@ -94,6 +95,7 @@ module _ (ls at : List ℕ) (a l n s : ℕ) (few : length ls ≤ 16384) (k : lon
       let e : longest ls - (l - 1) ≡ suc (longest ls - l) = omega (arith, w .within) in
       ap (λ (x : ℕ). x / 2) sum-is ∙ sym (ap (running ls) e)
 
+  -- one length is passed
   pub walk-step : (r : ℕ) → r ≡ (a + 1) % 2 ^ 32 → s < 2 ^ l → Walked ls (set at l r) (s / 2) (l - 1)
   walk-step r er t = record {
     within = omega (arith, w .within);
@@ -114,9 +116,11 @@ module _ (ls at : List ℕ) (a l n s : ℕ) (few : length ls ≤ 16384) (k : lon
 
 -- no sum reaches its power of two: no refusal 10, and the first word of each length
 module _ (ls at : List ℕ) (a l : ℕ) (few : length ls ≤ 16384) (k : longest ls ≤ 18) (w : Walked ls at a l) (e : l ≡ 0) where
+  -- no refusal 10
   pub walk-fits : overfull ls ≡ false
   walk-fits = over-none ls (accumulator-fits ls few k .1 (λ j z h. w .passed j (omega arith) h))
 
+  -- the first word of each length is written
   pub walk-firsts : at ≡ firstsOf ls
   walk-firsts = firsts-only ls at (w .many) (w .blank 0 (omega arith)) (λ j h. w .written j (omega arith))
 

@@ -27,9 +27,11 @@ use Rattle.words.proofs.Walking.{firsts-twelve}
 
 -- the second part's size
 module _ (m s : ℕ) (k : m ≤ 18) (f : s ≤ 4096) where
+  -- the shift is exact
   pub second-exact : s * (1 * 2 ^ (m - 12) % 2 ^ 64) ≡ s * 2 ^ (m - 12)
   second-exact = ap (λ (x : ℕ). s * x) (shl-one 64 (m - 12) (omega arith))
 
+  -- and the product fits
   pub second-fits : s * (1 * 2 ^ (m - 12) % 2 ^ 64) ≤ 262144
   second-fits = rw second-exact (second-small m s k f)
 
@@ -46,23 +48,28 @@ twelve-small ls k f = elim (decLe (longest ls) 12) [
 pub test-bad : (fits over : Bool) → fits ≡ not over → not fits ≡ true → over ≡ true
 test-bad fits over e a = not-false over (sym e ∙ not-true fits a)
 
+-- where it passes
 pub test-good : (fits over : Bool) → fits ≡ not over → not fits ≡ false → (fits ≡ true) × (over ≡ false)
 test-good fits over e a = (not-false fits a, not-true over (sym e ∙ not-false fits a))
 
 module _ (ls : List ℕ) (plane : ℕ) where
+  -- a length above 18
   pub weighed-9 : 18 < longest ls → Refused 9 (Plane plane) ≡ weighed ls plane
   unfolding weighed tooLong
   weighed-9 a = sym (simp (lt-ltb _ _ a))
 
+  -- shares that exceed one
   pub weighed-10 : longest ls ≤ 18 → overfull ls ≡ true → Refused 10 (Plane plane) ≡ weighed ls plane
   unfolding weighed tooLong
   weighed-10 a b = sym (simp (le-ltb _ _ a, b))
 
   -- the need, from what `first_words` gives
   module _ (at : List ℕ) (k : longest ls ≤ 18) (over : overfull ls ≡ false) (is : at ≡ firstsOf ls) where
+    -- what `need_from` asks
     pub twelve-fits : getD at 12 0 ≤ 4096
     twelve-fits = omega (arith, firsts-twelve ls at is, twelve-small ls k (none-over ls over))
 
+    -- the need
     pub weighed-need : (m n : ℕ) → m ≡ longest ls → n ≡ needFrom m (getD at 12 0) → Need n ≡ weighed ls plane
     unfolding weighed tooLong
     weighed-need m n e f =

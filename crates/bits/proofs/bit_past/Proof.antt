@@ -1,3 +1,4 @@
+-- `bits::bit_past` meets its contract: one bit of a byte, and zero past the last (document 01, "Layout"). Assumes nothing.
 use Rattle.bits.proofs.Windows.{windows}
 use borrow.Author.Needs.{needs}
 use Rattle.bits.proofs.bit_past.Statement.{statement}

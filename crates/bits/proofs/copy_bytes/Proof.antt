@@ -1,3 +1,4 @@
+-- `bits::copy_bytes` meets its contract: the loop fills the buffer with the bytes as they stand (document 01, "Layout"). Assumes nothing.
 use mathlib.Core.Path.{_≡_}
 use Prim.Native.Nat.{_+_, _-_, _≤_}
 use lib.ListN.{length, drop}

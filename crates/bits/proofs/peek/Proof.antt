@@ -1,3 +1,4 @@
+-- `bits::peek` meets its contract: the loop has read the first j bits of the window (document 01, "Layout"). Assumes nothing.
 use mathlib.Core.Path.{_≡_}
 use Prim.Native.Nat.{_-_, _≤_, _/_, _%_}
 use Rattle.bits.proofs.Windows.{Read, windows}

@@ -1,3 +1,4 @@
+-- `bits::sample_at` meets its contract: a window of at most 16 bits fits 16 bits (document 01, "Layout"). Assumes nothing.
 use Rattle.bits.proofs.Windows.{windows}
 use borrow.Author.Needs.{needs}
 use Rattle.bits.proofs.sample_at.Statement.{statement}

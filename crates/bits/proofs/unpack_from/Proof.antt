@@ -1,3 +1,4 @@
+-- `bits::unpack_from` meets its contract: the loop fills the buffer with the samples, one window each (document 01, "Layout"). Assumes nothing.
 use mathlib.Core.Path.{_≡_}
 use Prim.Native.Nat.{_+_, _-_, _*_, _≤_}
 use lib.ListN.{length}

@@ -1,3 +1,4 @@
+-- `figures::all_samples` meets its contract: the sum over all planes (document 01, "Layout"). Assumes nothing.
 use Rattle.figures.proofs.Figures.{sums}
 use borrow.Author.Needs.{needs}
 use Rattle.figures.proofs.all_samples.Statement.{statement}

@@ -1,3 +1,4 @@
+-- `figures::fields_of` meets its contract: f is 1, or 2 if interlaced (document 01, "Layout"). Assumes nothing.
 use Rattle.scope.specs.Geometry as geo
 use Rattle.figures.proofs.Figures.{sides}
 use borrow.Author.Needs.{needs}

@@ -1,3 +1,4 @@
+-- `figures::is_small` meets its contract: planes 1 and 2 of a subsampled family (document 01, "Layout"). Assumes nothing.
 use Rattle.figures.proofs.Figures.{sides}
 use borrow.Author.Needs.{needs}
 use Rattle.figures.proofs.is_small.Statement.{statement}

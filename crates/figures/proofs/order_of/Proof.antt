@@ -1,3 +1,4 @@
+-- `figures::order_of` meets its contract: 0 and 1 change places in a correlated family (document 01, "Layout"). Assumes nothing.
 use Rattle.figures.proofs.Figures.{swaps}
 use borrow.Author.Needs.{needs}
 use Rattle.figures.proofs.order_of.Statement.{statement}

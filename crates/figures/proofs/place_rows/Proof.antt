@@ -1,3 +1,4 @@
+-- `figures::place_rows` meets its contract: the slice height, cut at the plane's height (document 01, "Layout"). Assumes nothing.
 use Rattle.figures.proofs.Figures.{place-rows}
 use Rattle.figures.proofs.place_rows.Statement.{statement}
 use Rattle.figures.proofs.place_rows.Tie as tie

@@ -1,3 +1,4 @@
+-- `figures::place_samples` meets its contract: its rows times the plane's width (document 01, "Layout"). Assumes nothing.
 use Rattle.figures.proofs.Figures.{samples-fit, samples-most, product-are}
 use borrow.Author.Needs.{needs}
 use Rattle.figures.proofs.place_samples.Statement.{statement}

@@ -1,3 +1,4 @@
+-- `figures::place_start` meets its contract: the start of its first row (document 01, "Layout"). Assumes nothing.
 use Rattle.figures.proofs.Figures.{place-rows}
 use borrow.Author.Needs.{needs}
 use Rattle.figures.proofs.place_start.Statement.{statement}

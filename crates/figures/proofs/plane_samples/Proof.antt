@@ -1,3 +1,4 @@
+-- `figures::plane_samples` meets its contract: the product of two sides (document 01, "Layout"). Assumes nothing.
 use Rattle.figures.proofs.Figures.{samples-fit, samples-most, samples-are}
 use borrow.Author.Needs.{needs}
 use Rattle.figures.proofs.plane_samples.Statement.{statement}

@@ -1,3 +1,4 @@
+-- `figures::plane_start` meets its contract: the sum over the planes before its place (document 01, "Layout"). Assumes nothing.
 use Rattle.figures.proofs.Figures.{sums}
 use borrow.Author.Needs.{needs}
 use Rattle.figures.proofs.plane_start.Statement.{statement}

@@ -1,3 +1,4 @@
+-- `figures::plane_width` meets its contract: a whole side, or one that a factor divides (document 01, "Layout"). Assumes nothing.
 use Rattle.scope.specs.Geometry as geo
 use Rattle.figures.proofs.Figures.{sides}
 use borrow.Author.Needs.{needs}

@@ -1,3 +1,4 @@
+-- `figures::row_start` meets its contract: so many rows past the plane's start (document 01, "Layout"). Assumes nothing.
 use Rattle.figures.proofs.Figures.{rows}
 use borrow.Author.Needs.{needs}
 use Rattle.figures.proofs.row_start.Statement.{statement}

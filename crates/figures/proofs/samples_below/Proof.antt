@@ -1,3 +1,4 @@
+-- `figures::samples_below` meets its contract: the loop sums the planes before n (document 01, "Layout"). Assumes nothing.
 use mathlib.Core.Path.{_≡_}
 use Prim.Native.Nat.{_-_, _*_, _≤_}
 use Rattle.scope.specs.Base.{sumBelow}

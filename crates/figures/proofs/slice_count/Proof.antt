@@ -1,3 +1,4 @@
+-- `figures::slice_count` meets its contract: T = P·K (document 01, "Layout"). Assumes nothing.
 use Rattle.figures.proofs.Figures.{count-fits, count-most, product-are, count-some}
 use borrow.Author.Needs.{needs}
 use Rattle.figures.proofs.slice_count.Statement.{statement}

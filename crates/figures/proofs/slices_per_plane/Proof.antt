@@ -1,3 +1,4 @@
+-- `figures::slices_per_plane` meets its contract: K, rounded up (document 01, "Layout"). Assumes nothing.
 use Rattle.figures.proofs.Places.{slices-most, slices-some}
 use borrow.Author.Needs.{needs}
 use Rattle.figures.proofs.slices_per_plane.Statement.{statement}

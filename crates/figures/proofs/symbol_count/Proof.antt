@@ -1,3 +1,4 @@
+-- `figures::symbol_count` meets its contract: 2^depth by a shift (document 01, "Layout"). Assumes nothing.
 use Rattle.figures.proofs.Figures.{powers}
 use borrow.Author.Needs.{needs}
 use Rattle.figures.proofs.symbol_count.Statement.{statement}

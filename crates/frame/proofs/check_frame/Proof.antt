@@ -1,3 +1,4 @@
+-- `frame::check_frame` meets its contract: the two steps one after the other (document 01, "Refusal numbers"). Assumes nothing.
 use Rattle.frame.proofs.Framed.{frames}
 use Rattle.frame.proofs.check_frame.Statement.{statement}
 use Rattle.frame.proofs.check_frame.Tie as tie

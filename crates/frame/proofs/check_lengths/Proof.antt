@@ -1,3 +1,4 @@
+-- `frame::check_lengths` meets its contract: the loop sums the needs of the planes that passed, and stops at the first refusal (document 01, "Refusal numbers"). Assumes nothing.
 use Rattle.scope.specs.Geometry.{planeCount}
 use lib.ListN.{length}
 use mathlib.Core.Path.{_≡_}

@@ -1,3 +1,4 @@
+-- `frame::check_words` meets its contract: refusals 9 to 14 in the table's order (document 01, "Refusal numbers"). Assumes nothing.
 use Rattle.frame.proofs.Framed.{wordings}
 use Rattle.frame.proofs.check_words.Statement.{statement}
 use Rattle.frame.proofs.check_words.Tie as tie

@@ -1,3 +1,4 @@
+-- `frame::weigh_plane` meets its contract: the plane's part of the lent lengths (document 01, "Refusal numbers"). Assumes nothing.
 use Rattle.frame.proofs.Needs.{part-weighed}
 use Rattle.slices.proofs.Parts.{parts}
 use Rattle.frame.proofs.weigh_plane.Statement.{statement}

@@ -1,3 +1,4 @@
+-- `layout::check_layout` meets its contract: the two steps one after the other (document 01, "Layout" and "Refusal numbers"). Assumes nothing.
 use Rattle.layout.proofs.Checks.{layouts}
 use Rattle.layout.proofs.check_layout.Statement.{statement}
 use Rattle.layout.proofs.check_layout.Tie as tie

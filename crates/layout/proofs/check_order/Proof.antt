@@ -1,3 +1,4 @@
+-- `layout::check_order` meets its contract: the loop counts the slices of each plane, and stops at the first that has no room (document 01, "Layout" and "Refusal numbers"). Assumes nothing.
 use Prim.Native.Nat.{_-_}
 use Rattle.layout.proofs.Slices.{Walk, walks, walk-all-there}
 use borrow.Author.Needs.{needs}

@@ -1,3 +1,4 @@
+-- `layout::check_preamble` meets its contract: refusals 5 to 7 in the table's order (document 01, "Layout" and "Refusal numbers"). Assumes nothing.
 use Rattle.layout.proofs.Checks.{preamble, entry-in}
 use borrow.Author.Needs.{needs}
 use Rattle.layout.proofs.check_preamble.Statement.{statement}

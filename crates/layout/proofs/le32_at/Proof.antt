@@ -1,3 +1,4 @@
+-- `layout::le32_at` meets its contract: four bytes, the lowest first (document 01, "Layout" and "Refusal numbers"). Assumes nothing.
 use Rattle.layout.proofs.Checks.{le32-is}
 use borrow.Author.Needs.{needs}
 use Rattle.layout.proofs.le32_at.Statement.{statement}

@@ -1,3 +1,4 @@
+-- `layout::plane_index` meets its contract: the byte at its offset (document 01, "Layout" and "Refusal numbers"). Assumes nothing.
 use Rattle.layout.proofs.Slices.{index-is}
 use borrow.Author.Needs.{needs}
 use Rattle.layout.proofs.plane_index.Statement.{statement}

@@ -1,3 +1,4 @@
+-- `layout::slice_end` meets its contract: the next start, or the frame's end (document 01, "Layout" and "Refusal numbers"). Assumes nothing.
 use Rattle.layout.proofs.Checks.{ends-next, ends-last}
 use borrow.Author.Needs.{needs}
 use Rattle.layout.proofs.slice_end.Statement.{statement}

@@ -1,3 +1,4 @@
+-- `layout::slice_start` meets its contract: 32 and the entry (document 01, "Layout" and "Refusal numbers"). Assumes nothing.
 use Rattle.layout.proofs.Checks.{starts-at}
 use borrow.Author.Needs.{needs}
 use Rattle.layout.proofs.slice_start.Statement.{statement}

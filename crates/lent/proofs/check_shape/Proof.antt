@@ -1,3 +1,4 @@
+-- `lent::check_shape` meets its contract: refusals 1 to 3 (document 01, "Refusal numbers"). Assumes nothing.
 use Rattle.lent.proofs.Refused.{shapes}
 use Rattle.lent.proofs.check_shape.Statement.{statement}
 use Rattle.lent.proofs.check_shape.Tie as tie

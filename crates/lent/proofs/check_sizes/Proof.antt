@@ -1,3 +1,4 @@
+-- `lent::check_sizes` meets its contract: refusal 4 (document 01, "Refusal numbers"). Assumes nothing.
 use Rattle.lent.proofs.Refused.{lent-sizes}
 use Rattle.lent.proofs.check_sizes.Statement.{statement}
 use Rattle.lent.proofs.check_sizes.Tie as tie

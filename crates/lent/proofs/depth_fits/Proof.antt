@@ -1,3 +1,4 @@
+-- `lent::depth_fits` meets its contract: 8, or 10, 12 and 14 (document 01, "Refusal numbers"). Assumes nothing.
 use Rattle.lent.proofs.Refused.{tests}
 use Rattle.lent.proofs.depth_fits.Statement.{statement}
 use Rattle.lent.proofs.depth_fits.Tie as tie

@@ -1,3 +1,4 @@
+-- `lent::factor_fits` meets its contract: 1, or 2 in a subsampled family (document 01, "Refusal numbers"). Assumes nothing.
 use Rattle.lent.proofs.Refused.{tests}
 use Rattle.lent.proofs.factor_fits.Statement.{statement}
 use Rattle.lent.proofs.factor_fits.Tie as tie

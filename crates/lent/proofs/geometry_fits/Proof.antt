@@ -1,3 +1,4 @@
+-- `lent::geometry_fits` meets its contract: the rules one after the other (document 01, "Refusal numbers"). Assumes nothing.
 use Rattle.scope.specs.Geometry as geo
 use Rattle.lent.proofs.Refused.{chained}
 use borrow.Author.Needs.{needs}

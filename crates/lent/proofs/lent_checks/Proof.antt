@@ -1,3 +1,4 @@
+-- `lent::lent_checks` meets its contract: the two steps one after the other (document 01, "Refusal numbers"). Assumes nothing.
 use Rattle.lent.proofs.Refused.{lent}
 use Rattle.lent.proofs.lent_checks.Statement.{statement}
 use Rattle.lent.proofs.lent_checks.Tie as tie

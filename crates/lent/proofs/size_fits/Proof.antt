@@ -1,3 +1,4 @@
+-- `lent::size_fits` meets its contract: 1 to 16,384 (document 01, "Refusal numbers"). Assumes nothing.
 use Rattle.lent.proofs.Refused.{tests}
 use Rattle.lent.proofs.size_fits.Statement.{statement}
 use Rattle.lent.proofs.size_fits.Tie as tie

@@ -1,3 +1,4 @@
+-- `slices::check_size` meets its contract: bits over 8, rounded up (document 01, "Refusal numbers"). Assumes nothing.
 use Rattle.slices.proofs.Sliced.{sizings}
 use Rattle.slices.proofs.check_size.Statement.{statement}
 use Rattle.slices.proofs.check_size.Tie as tie

@@ -1,3 +1,4 @@
+-- `slices::check_slice` meets its contract: refusals 12 to 14 in the table's order (document 01, "Refusal numbers"). Assumes nothing.
 use Rattle.slices.proofs.Sliced.{slicings}
 use borrow.Author.Needs.{needs}
 use Rattle.slices.proofs.check_slice.Statement.{statement}

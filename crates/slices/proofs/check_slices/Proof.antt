@@ -1,3 +1,4 @@
+-- `slices::check_slices` meets its contract: the loop counts places, and stops at the first refusal (document 01, "Refusal numbers"). Assumes nothing.
 use Prim.Native.Nat.{_-_, _≤_}
 use Rattle.layout.proofs.Going.{Going, goes, going-step, going-refused, going-done, going-placed, going-plane}
 use Rattle.scope.specs.Frame.{sliceCheck}

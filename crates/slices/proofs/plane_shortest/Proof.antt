@@ -1,3 +1,4 @@
+-- `slices::plane_shortest` meets its contract: the plane's part of the lent lengths (document 01, "Refusal numbers"). Assumes nothing.
 use Rattle.slices.proofs.Parts.{parts}
 use borrow.Author.Needs.{needs}
 use Rattle.slices.proofs.plane_shortest.Statement.{statement}

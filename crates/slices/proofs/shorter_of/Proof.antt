@@ -1,3 +1,4 @@
+-- `slices::shorter_of` meets its contract: 0 is no length (document 01, "Refusal numbers"). Assumes nothing.
 use Rattle.slices.proofs.Shortness.{shorters}
 use borrow.Author.Needs.{needs}
 use Rattle.slices.proofs.shorter_of.Statement.{statement}

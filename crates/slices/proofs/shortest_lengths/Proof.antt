@@ -1,3 +1,4 @@
+-- `slices::shortest_lengths` meets its contract: the loop has found the shortest of the planes before p (document 01, "Refusal numbers"). Assumes nothing.
 use Prim.Native.Nat.{_-_}
 use Rattle.slices.proofs.Parts.{Found, finds}
 use Rattle.slices.proofs.shortest_lengths.Statement.{statement}

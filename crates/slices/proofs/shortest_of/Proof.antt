@@ -1,3 +1,4 @@
+-- `slices::shortest_of` meets its contract: what is left will make of m the shortest of all (document 01, "Refusal numbers"). Assumes nothing.
 use Prim.Native.Nat.{_-_}
 use lib.ListN.{length}
 use Rattle.slices.proofs.Shortness.{Passing, passings}

@@ -10,17 +10,14 @@ longest-of-requires c κs = search needs
 words-u16-requires : tie.Need-words-u16-requires
 words-u16-requires c κs = search readings
 
-enum-known-end : tie.Need-enum-known-end
-enum-known-end c = search needs
-
 clear-u32-requires : tie.Need-clear-u32-requires
 clear-u32-requires c κs = search needs
 
-enum-known-at : tie.Need-enum-known-at
-enum-known-at c = search needs
+enum-known-reached : tie.Need-enum-known-reached
+enum-known-reached c = search needs
 
-clear-u32-requires-2 : tie.Need-clear-u32-requires-2
-clear-u32-requires-2 c κs = search needs
+enum-known-reached-2 : tie.Need-enum-known-reached-2
+enum-known-reached-2 c = search needs
 
 clear-u16-requires : tie.Need-clear-u16-requires
 clear-u16-requires c κs = search needs
@@ -49,10 +46,9 @@ read-built-spec =
     (tie.spec
     longest-of-requires
     words-u16-requires
-    enum-known-end
     clear-u32-requires
-    enum-known-at
-    clear-u32-requires-2
+    enum-known-reached
+    enum-known-reached-2
     clear-u16-requires
     same-length
     same-length-2

@@ -1,7 +1,7 @@
 -- Checks one after another, by a loop: those before i have passed, check i refuses, all have passed (document 01, "Checked in this
 -- order; the first that applies is given"). Assumes nothing.
-use mathlib.Core.Path.{_≡_, refl, sym, ap, _∙_}
-use Prim.Native.Nat.{ℕ, zero, suc, _+_, _-_, _≤_, _<_}
+use mathlib.Core.Path.{_≡_, refl}
+use Prim.Native.Nat.{ℕ, zero, suc, _+_, _-_, _<_}
 use native.Mathlib.Nat.{add-zero, add-suc}
 use native.Mathlib.Numerals.{add-one}
 use native.Mathlib.Omega.{arith}
@@ -17,10 +17,12 @@ pub first-passed : (a b : Answer) → Done ≡ (a andThen b) → Done ≡ a
 first-passed Done b e = refl
 first-passed (Refused n p) b e = e
 
+-- and so did the second
 pub then-passed : (a b : Answer) → Done ≡ (a andThen b) → Done ≡ b
 then-passed Done b e = e
 then-passed (Refused n p) b e = cc
 
+-- a test that refused nothing is false
 pub if-passed : (t : Bool) (n : ℕ) (p : Place) → Done ≡ refuseIf t n p → t ≡ false
 if-passed false n p e = refl
 if-passed true n p e = cc
@@ -56,6 +58,7 @@ module _ (f : ℕ → Answer) where
   earlier i zero e = rw add-zero at e
   earlier i (suc k) e = earlier i k (first-passed _ _ (rw add-suc at e))
 
+  -- check i of those
   pub each-passed : (m i : ℕ) → Done ≡ inOrder m f → i < m → Done ≡ f i
   unfolding refusals.inOrder
   each-passed m i e l =

@@ -42,19 +42,23 @@ module _ (width start : ℕ) (e : start % width ≡ 0) where
 -- ---- what the whole slice's step is at a place of a row, its tests decided
 
 module _ (depth : ℕ) (predict : ℕ → ℕ → ℕ → ℕ) (width f i : ℕ) (before : List ℕ) (x : ℕ) where
+  -- column 0 of the first f rows
   first-start : i < f * width → i % width ≡ 0 → (x + 0) % 2 ^ depth ≡ sample depth predict width f i before x
   unfolding sample prediction
   first-start h e = simp (lt-ltb i (f * width) h, eq-eqb (i % width) 0 e)
 
+  -- the other columns there
   first-across : i < f * width → (i % width ≡ 0 → ⊥) → leftward depth i before x ≡ sample depth predict width f i before x
   unfolding sample prediction
   first-across h e = simp (lt-ltb i (f * width) h, ne-eqb (i % width) 0 e)
 
+  -- column 0 of a later row
   later-start : f * width ≤ i → i % width ≡ 0
       → (x + getD before (i - f * width) 0) % 2 ^ depth ≡ sample depth predict width f i before x
   unfolding sample prediction
   later-start h e = simp (le-ltb i (f * width) h, eq-eqb (i % width) 0 e)
 
+  -- the other columns there
   later-across : f * width ≤ i → (i % width ≡ 0 → ⊥)
       → across depth predict (f * width) i before x ≡ sample depth predict width f i before x
   unfolding sample prediction
@@ -106,6 +110,7 @@ module _ (depth kind width f : ℕ) (xs : List ℕ) where
   rows-start = record { made = at-start (sample depth (predictor depth kind) width f) xs; column = λ h. zero-mod width }
 
   module _ (s : List ℕ) (start : ℕ) (r : Rows depth kind width f xs s start) where
+    -- the length stays
     pub rows-length : length s ≡ length xs
     rows-length = r .made .same
 

@@ -61,6 +61,7 @@ module _ (lo hi c x y r : ℕ) (o : lo ≤ hi) (ex : x ≡ min c hi) (ey : y ≡
       let e : y ≡ c = omega arith in
       omega arith
 
+-- the formula, of its parts as the code has them
 pub t87-clamped : (l t c lo hi x y r : ℕ) → lo ≡ min l t → hi ≡ max l t → x ≡ min c hi → y ≡ max lo x → r ≡ hi - (y - lo)
     → r ≡ t87Median l t c
 unfolding t87Median
@@ -84,7 +85,7 @@ t87-clamped l t c lo hi x y r el eh ex ey er = go (decLe (max l t) c) (decLe c (
         simp (lt-leb (max l t) c h′, lt-leb c (min l t) k′)
         (exact lo hi c x y r o ex ey er (rw el k′) (rw eh h′) ∙ ap (λ (n : ℕ). n - c) both)
 
--- ---- which predictor a number names, at a place
+-- ---- which predictor a number names, at a place: 1, 2, and any other at depth 8 and above it
 pub by-left : (depth kind l t c : ℕ) → kind ≡ 1 → predictor depth kind l t c ≡ l
 unfolding predictor
 by-left depth kind l t c e = simp (eq-eqb kind 1 e)

@@ -19,6 +19,7 @@ pub set-kept : (s ys : List ℕ) (i v : ℕ) → length ys ≡ length (set s i v
 set-kept s ys i v e = e ∙ length-set s i v
 
 module _ (depth : ℕ) (s ys : List ℕ) (start end v : ℕ) where
+  -- one of the first f rows
   pub first-made : v ≡ (getD s start 0 + 0) % 2 ^ depth → ys ≡ swept (leftward depth) (set s start v) (start + 1) (end - (start + 1))
       → ys ≡ firstRow depth s start end
   unfolding rowFrom
@@ -32,19 +33,23 @@ module _ (depth : ℕ) (s ys : List ℕ) (start end v : ℕ) where
         rw e at
         (k ∙ swept-same (across depth (predictor depth kind) back) step same (set s start v) (start + 1) (end - (start + 1)))
 
+    -- a later row by Left
     pub left-made : kind ≡ 1 → ys ≡ swept (leftward depth) (set s start v) (start + 1) (end - (start + 1))
         → ys ≡ laterRow depth kind back s start end
     left-made h = later-made (leftward depth) (λ i p x. rw (by-left depth kind _ _ _ h))
 
+    -- by Gradient
     pub gradient-made : kind ≡ 2 → ys ≡ swept (across depth (gradient depth) back) (set s start v) (start + 1) (end - (start + 1))
         → ys ≡ laterRow depth kind back s start end
     gradient-made h = later-made (across depth (gradient depth) back) (λ i p x. rw (by-gradient depth kind _ _ _ h))
 
+    -- by the Median above depth 8
     pub t87-made : (kind ≡ 1 → ⊥) → (kind ≡ 2 → ⊥) → 8 < depth
         → ys ≡ swept (across depth t87Median back) (set s start v) (start + 1) (end - (start + 1))
         → ys ≡ laterRow depth kind back s start end
     t87-made h k d = later-made (across depth t87Median back) (λ i p x. rw (by-t87 depth kind _ _ _ h k d))
 
+-- and by the Median of depth 8
 pub clamp-made : (s ys : List ℕ) (start end v kind back : ℕ) → v ≡ (getD s start 0 + getD s (start - back) 0) % 2 ^ 8
     → (kind ≡ 1 → ⊥) → (kind ≡ 2 → ⊥)
     → ys ≡ swept (across 8 (clampMedian 8) back) (set s start v) (start + 1) (end - (start + 1))
@@ -52,12 +57,13 @@ pub clamp-made : (s ys : List ℕ) (start end v kind back : ℕ) → v ≡ (getD
 clamp-made s ys start end v kind back e h k =
     later-made 8 s ys start end v kind back e (across 8 (clampMedian 8) back) (λ i p x. rw (by-clamp kind _ _ _ h k))
 
--- a row of either sort
+-- a row among the first f
 pub row-first : (depth kind back : ℕ) (s ys : List ℕ) (start end : ℕ) → start < back → ys ≡ firstRow depth s start end
     → ys ≡ row depth kind back s start end
 unfolding row
 row-first depth kind back s ys start end h e = simp (lt-ltb start back h) e
 
+-- a later row
 pub row-later : (depth kind back : ℕ) (s ys : List ℕ) (start end : ℕ) → back ≤ start → ys ≡ laterRow depth kind back s start end
     → ys ≡ row depth kind back s start end
 unfolding row

@@ -69,8 +69,8 @@ run-long g b wire buf db pl = pl db .whole
 
 -- ---- what refusals 1 to 4 leave, as the run asks for it
 module _ (deep : Bool) (g : Geometry) (l p : ℕ) (a : Answer) (ea : a ≡ lentChecks deep g l p) (da : a ≡ Done) where
-  lent-passed : lentChecks deep g l p ≡ Done
-  lent-passed = sym ea ∙ da
+  lent-passed : Done ≡ lentChecks deep g l p
+  lent-passed = sym da ∙ ea
 
   pub lent-sound : Sound g
   lent-sound = lent.lent-sound deep g l p lent-passed
@@ -82,7 +82,7 @@ module _ (deep : Bool) (g : Geometry) (l p : ℕ) (a : Answer) (ea : a ≡ lentC
   lent-planes = lent.lent-planes deep g l p lent-passed
 
 pub lent-8 : (g : Geometry) (l p : ℕ) (a : Answer) → a ≡ lentChecks false g l p → a ≡ Done → g .depth ≡ 8
-lent-8 g l p a ea da = depth-shallow (g .depth) (lent.lent-depth false g l p (sym ea ∙ da))
+lent-8 g l p a ea da = depth-shallow (g .depth) (lent.lent-depth false g l p (sym da ∙ ea))
 
 pub lent-deep : (g : Geometry) (l p : ℕ) (a : Answer) → a ≡ lentChecks true g l p → a ≡ Done → 8 < g .depth
-lent-deep g l p a ea da = omega (arith, depth-deep (g .depth) (lent.lent-depth true g l p (sym ea ∙ da)) .0)
+lent-deep g l p a ea da = omega (arith, depth-deep (g .depth) (lent.lent-depth true g l p (sym da ∙ ea)) .0)

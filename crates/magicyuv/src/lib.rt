@@ -1,0 +1,195 @@
+// The host's boundary: the product's functions as extern "C", on numbers and slices. An enum cannot cross it, so a Reply of three
+// numbers stands in for the answer; each function is proved to reply just the answer's number and place.
+
+use scope::Answer;
+use scope::Family;
+use scope::Geometry;
+use scope::Place;
+ghost use mathlib.Core.Path.{_≡_};
+ghost use mathlib.Core.Bool.{true, false};
+ghost use Prim.Native.Nat.{_<_, _≤_};
+ghost use lib.Dec.{eqb};
+ghost use Rattle.scope.specs.Refusals.{placeOf, placeNumber};
+ghost use Rattle.magicyuv.specs.Boundary.{familyOf, geometryOf, numbers, Says, Hosted, BuiltFor, ReadFor};
+
+// 0 for planes, or the refusal's number; 0 nothing, 1 a slice, 2 a plane; and which one.
+#[repr(C)]
+pub struct Reply {
+    pub number: u32,
+    pub kind: u32,
+    pub place: u32,
+}
+
+// The reply that says an answer.
+fn reply_of(a: Answer) -> Reply
+    requires { ⌜ placeNumber (placeOf a) < 65536 ⌝ }
+    ensures { λ r. ⌜ Says a r ⌝ }
+{
+    match a {
+        Answer::Done => Reply {
+            number: 0,
+            kind: 0,
+            place: 0,
+        },
+        Answer::Refused(number, place) => match place {
+            Place::Nothing => Reply {
+                number: number,
+                kind: 0,
+                place: 0,
+            },
+            Place::Slice(s) => Reply {
+                number: number,
+                kind: 1,
+                place: s as u32,
+            },
+            Place::Plane(p) => Reply {
+                number: number,
+                kind: 2,
+                place: p as u32,
+            },
+        },
+    }
+}
+
+fn family(n: u32) -> Family
+    ensures { λ r. ⌜ r ≡ familyOf n ⌝ }
+{
+    if n == 0 {
+        return Family::Gray;
+    }
+    if n == 1 {
+        return Family::Rgb;
+    }
+    if n == 2 {
+        return Family::Yuv;
+    }
+    if n == 3 {
+        return Family::Rgba;
+    }
+    Family::Yuva
+}
+
+// The geometry that eight numbers say, where the family's and the last are known to be in range.
+fn geometry(
+    width: u32,
+    height: u32,
+    slice_height: u32,
+    family_number: u32,
+    sx: u32,
+    sy: u32,
+    depth: u32,
+    interlaced: u32,
+) -> Geometry
+    ensures { λ r. ⌜ r ≡ geometryOf (numbers width height «slice_height» «family_number» sx sy depth interlaced) ⌝ }
+{
+    let f = family(family_number);
+    Geometry {
+        width: width as usize,
+        height: height as usize,
+        slice_height: slice_height as usize,
+        family: f,
+        sx: sx as usize,
+        sy: sy as usize,
+        depth: depth as usize,
+        interlaced: interlaced == 1,
+    }
+}
+
+// Document 01's entry for depth 8.
+#[no_mangle]
+pub extern "C" fn magicyuv_decode8(
+    frame: &[u8],
+    lengths: &[u8],
+    planes: &mut [u8],
+    workspace: &mut [u32],
+    width: u32,
+    height: u32,
+    slice_height: u32,
+    family: u32,
+    sx: u32,
+    sy: u32,
+    depth: u32,
+    interlaced: u32,
+) -> Reply
+    ensures { λ r. ⌜ Hosted false (now (frame .entry)) (numbers width height «slice_height» family sx sy depth interlaced) (now (lengths .entry)) (now (planes .entry)) (now (workspace .entry)) r (now (planes .exit)) (now (workspace .exit)) ⌝ }
+{
+    if 4 < family {
+        return reply_of(Answer::Refused(1, Place::Nothing));
+    }
+    if 1 < interlaced {
+        return reply_of(Answer::Refused(1, Place::Nothing));
+    }
+    let g = geometry(
+        width,
+        height,
+        slice_height,
+        family,
+        sx,
+        sy,
+        depth,
+        interlaced,
+    );
+    let a = decode::decode8(frame, g, lengths, planes, workspace);
+    reply_of(a)
+}
+
+// Document 01's entry for depths 10, 12 and 14.
+#[no_mangle]
+pub extern "C" fn magicyuv_decode16(
+    frame: &[u8],
+    lengths: &[u8],
+    planes: &mut [u16],
+    workspace: &mut [u32],
+    width: u32,
+    height: u32,
+    slice_height: u32,
+    family: u32,
+    sx: u32,
+    sy: u32,
+    depth: u32,
+    interlaced: u32,
+) -> Reply
+    ensures { λ r. ⌜ Hosted true (now (frame .entry)) (numbers width height «slice_height» family sx sy depth interlaced) (now (lengths .entry)) (now (planes .entry)) (now (workspace .entry)) r (now (planes .exit)) (now (workspace .exit)) ⌝ }
+{
+    if 4 < family {
+        return reply_of(Answer::Refused(1, Place::Nothing));
+    }
+    if 1 < interlaced {
+        return reply_of(Answer::Refused(1, Place::Nothing));
+    }
+    let g = geometry(
+        width,
+        height,
+        slice_height,
+        family,
+        sx,
+        sy,
+        depth,
+        interlaced,
+    );
+    let a = decode::decode16(frame, g, lengths, planes, workspace);
+    reply_of(a)
+}
+
+// A table built by itself.
+#[no_mangle]
+pub extern "C" fn magicyuv_build(lengths: &[u8], workspace: &mut [u32]) -> Reply
+    ensures { λ r. ⌜ BuiltFor (now (lengths .entry)) (now (workspace .entry)) r (now (workspace .exit)) ⌝ }
+{
+    let a = table::build(lengths, workspace);
+    reply_of(a)
+}
+
+// A reading by itself.
+#[no_mangle]
+pub extern "C" fn magicyuv_read(
+    lengths: &[u8],
+    payload: &[u8],
+    workspace: &mut [u32],
+    samples: &mut [u16],
+) -> Reply
+    ensures { λ r. ⌜ ReadFor (now (lengths .entry)) (now (payload .entry)) (now (workspace .entry)) (now (samples .entry)) r (now (workspace .exit)) (now (samples .exit)) ⌝ }
+{
+    let a = table::read(lengths, payload, workspace, samples);
+    reply_of(a)
+}

@@ -3,7 +3,7 @@
 use scope::Family;
 use scope::Geometry;
 ghost use mathlib.Core.Path.{_≡_};
-ghost use Prim.Native.Nat.{_+_, _*_, _<_, _≤_, _^_};
+ghost use Prim.Native.Nat.{_*_, _<_, _≤_, _^_};
 ghost use Rattle.scope.specs.Geometry.{planesOf, subsampled, correlated, planeCount, slicesPerPlane, sliceCount, small, planeWidth, planeHeight, planeSliceHeight, firstRow, rowsAt, planeSamples, allSamples, fields, orderOf, planeStart, rowStart};
 ghost use Rattle.scope.specs.Base.{sumBelow};
 ghost use Rattle.figures.specs.Sound.{Sound};

@@ -11,7 +11,7 @@ use slices::shortest_lengths;
 use words::Weighed;
 use words::weigh;
 ghost use mathlib.Core.Path.{_≡_};
-ghost use Prim.Native.Nat.{_+_, _*_, _<_, _≤_, _^_};
+ghost use Prim.Native.Nat.{_*_, _<_, _^_};
 ghost use lib.ListN.{length};
 ghost use Rattle.scope.specs.Geometry.{planeCount, lengthsOf};
 ghost use Rattle.scope.specs.Frame.{frameChecks};

@@ -14,7 +14,7 @@ use scope::Geometry;
 use scope::Place;
 ghost use mathlib.Core.Path.{_≡_};
 ghost use Prim.Native.Nat.{_+_, _*_, _<_, _≤_, _^_};
-ghost use lib.ListN.{length, getD};
+ghost use lib.ListN.{length};
 ghost use Rattle.scope.specs.Refusals.{inOrder};
 ghost use Rattle.scope.specs.Geometry.{planeCount, sliceCount, lengthsOf};
 ghost use Rattle.scope.specs.Layout.{preambleStart};

@@ -1,0 +1,44 @@
+//! Looks for the archive `libmagicyuv.a` and links it when it is there.
+//!
+//! The archive comes from `rt staticlib magicyuv` at the repository's root. Its place is
+//! `../target/staticlib/libmagicyuv.a`, or the file that MAGICYUV_ARCHIVE names; the word `none`
+//! there asks for the model even when an archive exists.
+
+use std::path::{Path, PathBuf};
+
+fn default_place() -> PathBuf {
+    let here = std::env::var("CARGO_MANIFEST_DIR").expect("cargo names the package's folder");
+    Path::new(&here).join("../target/staticlib/libmagicyuv.a")
+}
+
+fn chosen() -> Option<PathBuf> {
+    match std::env::var("MAGICYUV_ARCHIVE") {
+        Ok(word) if word == "none" => None,
+        Ok(word) if !word.is_empty() => {
+            let place = PathBuf::from(&word);
+            if !place.is_file() {
+                panic!("MAGICYUV_ARCHIVE names {word}, and there is no such file");
+            }
+            Some(place)
+        }
+        _ => Some(default_place()),
+    }
+}
+
+fn link(archive: &Path) {
+    let folder = archive.parent().expect("a file has a folder");
+    println!("cargo:rustc-link-search=native={}", folder.display());
+    println!("cargo:rustc-link-lib=static=magicyuv");
+    println!("cargo:rustc-cfg=archive");
+}
+
+fn main() {
+    println!("cargo:rustc-check-cfg=cfg(archive)");
+    println!("cargo:rerun-if-changed=build.rs");
+    println!("cargo:rerun-if-env-changed=MAGICYUV_ARCHIVE");
+    let Some(place) = chosen() else { return };
+    println!("cargo:rerun-if-changed={}", place.display());
+    if place.is_file() {
+        link(&place);
+    }
+}

@@ -1,4 +1,4 @@
-//! Looks for the archive `libmagicyuv.a` and links it when it is there.
+//! Links the archive `libmagicyuv.a`, and stops where there is none.
 //!
 //! The archive comes from `rt staticlib magicyuv` at the repository's root. Its place is
 //! `../target/staticlib/libmagicyuv.a`, or the file that MAGICYUV_ARCHIVE names; the word `none`
@@ -38,7 +38,12 @@ fn main() {
     println!("cargo:rerun-if-env-changed=MAGICYUV_ARCHIVE");
     let Some(place) = chosen() else { return };
     println!("cargo:rerun-if-changed={}", place.display());
-    if place.is_file() {
-        link(&place);
+    // A host that quietly decoded with something else than the proved core would be the worst of answers.
+    if !place.is_file() {
+        panic!(
+            "no archive at {}: run `rt staticlib magicyuv` at the repository's root, or set MAGICYUV_ARCHIVE=none to try the programs on the model",
+            place.display()
+        );
     }
+    link(&place);
 }

@@ -1,7 +1,7 @@
 #!/usr/bin/env python3
 """red.py: the tables of docs/RED.md, from the edits of crates/*/must-fail and the logs that the last `rt ci` or `rt must-fail`
 left in target/must-fail. One row an edit: what it changes, and the first thing that the prover then says.
-Usage: python3 tools/red.py > /dev/stdout   (run at the repository's root, after the gate)"""
+Usage: python3 tools/red.py, at the repository's root, after the gate. A row that begins WRONG REASON must be mended."""
 import glob, os, re
 
 def fields(path):
@@ -28,14 +28,18 @@ def said(crate, label):
     if not os.path.exists(log):
         return "(no log)"
     for line in open(log, errors="replace"):
+        # An edit that only makes the proof file unfit for the code shows nothing: say so, and never cut it away.
+        if "error" in line and "has no `Need" in line:
+            return "WRONG REASON: the edit changed the code's shape"
         m = re.search(r"/(proofs|specs|src)/(\S+?):(\d+):\d+: error: (.*)", line)
         if m:
             where = re.sub(r"/Proof\.antt$", "", m.group(2))
             words = re.sub(r"`search`: no proof of.*", "`search` finds no proof", m.group(4))
             words = re.sub(r"(does not follow from what it read).*", r"\1", words)
             return f"{where}: {words[:110]}"
-    m = re.search(r"first at (\S+)", open(log, errors="replace").read())
-    return m.group(1) if m else "refused"
+    # A function that is proved without a file of its own: the log has a note at its source line.
+    m = re.search(r"/(src/\S+?:\d+):\d+: (it is not proved [^(]*)", open(log, errors="replace").read())
+    return f"{m.group(1)}: {m.group(2).strip()}" if m else "refused, and the log says no reason"
 
 order = [l.split(":")[0] for l in open("crates.txt") if ":" in l and not l.startswith("#")]
 for crate in order:

@@ -90,5 +90,5 @@ demand-3 ls h =
       built = λ w r. (λ e. good ls w e .full, λ f. answer-done ls w (h .few) m f r);
       fits = word-fits ls m;
       free = prefix-free ls;
-      reads = λ payload samples workspace f r z n. reads-chain ls payload samples workspace (h .few) m f r n;
+      reads = λ payload samples workspace f r n. reads-chain ls payload samples workspace (h .few) m f r n;
     }

@@ -38,11 +38,11 @@ pub record Demand3Functions : Type 1 where
       → Lengths (now (a .0)) → need (now (a .0)) ≤ length (now (a .1 .0)) → (r ≡ Done) ↔ (shares (now (a .0)) ≤ 262144)
   -- then its words are prefix-free (`free` of Demand3)
   pub code : (ls : List ℕ) → Lengths ls → Demand3 ls
-  -- and for 1 to 268,435,456 samples a reading succeeds exactly when the bits begin with a chain of as many words; the chain is the only
+  -- and for up to 268,435,456 samples a reading succeeds exactly when the bits begin with a chain of as many words; the chain is the only
   -- one, and its symbols are the samples; where there is none the reading leaves samples and workspace wholly zero
   pub reads : (κs : Lfts 4) (a : ArgsD read.signature κs) (r : ResD read.signature κs) (s : AtExit read.ended κs) → read-reads.Post κs a r s
       → Lengths (now (a .0)) → shares (now (a .0)) ≤ 262144 → need (now (a .0)) ≤ length (now (a .1 .1 .0))
-      → 0 < length (now (a .1 .1 .1 .0)) → length (now (a .1 .1 .1 .0)) ≤ 268435456
+      → length (now (a .1 .1 .1 .0)) ≤ 268435456
       → ((r ≡ Done) ↔ ((ss : List ℕ) × ChainOf (now (a .0)) (now (a .1 .0)) (length (now (a .1 .1 .1 .0))) ss))
       × ((ss : List ℕ) → ChainOf (now (a .0)) (now (a .1 .0)) (length (now (a .1 .1 .1 .0))) ss → now (s .1 .1 .1 .0) ≡ ss)
       × ((ss ts : List ℕ) → ChainOf (now (a .0)) (now (a .1 .0)) (length (now (a .1 .1 .1 .0))) ss
@@ -57,9 +57,9 @@ demand-3-functions = record {
       let d = demand-3 (now (a .0)) l .built (length (now (a .1 .0))) n in
       ((λ e. d .0 (sym (p .answer) ∙ e)), (λ f. p .answer ∙ d .1 f));
   code = demand-3;
-  reads = λ κs a r s p l f n z k.
+  reads = λ κs a r s p l f n k.
       let c : ReadsChain (now (a .0)) (now (a .1 .0)) (now (a .1 .1 .1 .0)) (now (a .1 .1 .0)) =
-      demand-3 (now (a .0)) l .reads (now (a .1 .0)) (now (a .1 .1 .1 .0)) (now (a .1 .1 .0)) f n z k in (
+      demand-3 (now (a .0)) l .reads (now (a .1 .0)) (now (a .1 .1 .1 .0)) (now (a .1 .1 .0)) f n k in (
         ((λ q. c .succeeds .0 (sym (p .answer) ∙ q)), (λ t. p .answer ∙ c .succeeds .1 t)),
         (λ ss t. p .samples ∙ c .hands ss t),
         c .only,

@@ -43,6 +43,6 @@ pub record Demand3 (ls : List ℕ) : Type 0 where
   -- and no word begins another symbol's word
   pub free : (s t : ℕ) → s < length ls → t < length ls → 0 < lengthOf ls s → lengthOf ls s ≤ lengthOf ls t
       → wordOf ls t / 2 ^ (lengthOf ls t - lengthOf ls s) ≡ wordOf ls s → s ≡ t
-  -- and for 1 to 268,435,456 samples a reading gives the chain
-  pub reads : (payload samples workspace : List ℕ) → shares ls ≤ 262144 → need ls ≤ length workspace → 0 < length samples
-      → length samples ≤ 268435456 → ReadsChain ls payload samples workspace
+  -- and for up to 268,435,456 samples, none among them, a reading gives the chain
+  pub reads : (payload samples workspace : List ℕ) → shares ls ≤ 262144 → need ls ≤ length workspace → length samples ≤ 268435456
+      → ReadsChain ls payload samples workspace

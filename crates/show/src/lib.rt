@@ -37,27 +37,34 @@ fn put_place(p: Place) {
     }
 }
 
-// Prints an answer on a line of its own, `planes` or `refusal 12 at slice 0`, and gives its number in document 01's table (0 for
-// planes).
-pub fn print_answer(a: Answer) -> u32
+// Writes an answer, `planes` or `refusal 12 at slice 0`, and gives its number in document 01's table (0 for planes).
+pub fn write_answer(a: Answer) -> u32
     ensures { λ r. ⌜ r ≡ numberOf a ⌝ }
 {
     match a {
         Answer::Done => {
-            put(b"planes\n");
+            put(b"planes");
             0
         }
         Answer::Refused(n, p) => {
             put_number(b"refusal ", n as u64);
             put_place(p);
-            put(b"\n");
             n
         }
     }
 }
 
-// Prints a line: a title, then bytes as decimal numbers, each after a space. Gives how many they were.
-pub fn print_samples_u8(title: &[u8], samples: &[u8]) -> usize
+// The same on a line of its own.
+pub fn print_answer(a: Answer) -> u32
+    ensures { λ r. ⌜ r ≡ numberOf a ⌝ }
+{
+    let n = write_answer(a);
+    put(b"\n");
+    n
+}
+
+// Writes a title, then bytes as decimal numbers, each after a space. Gives how many they were.
+pub fn write_samples_u8(title: &[u8], samples: &[u8]) -> usize
     ensures { λ r. ⌜ r ≡ length (now (samples .entry)) ⌝ }
 {
     put(title);
@@ -66,12 +73,11 @@ pub fn print_samples_u8(title: &[u8], samples: &[u8]) -> usize
         put_u8(samples[i]);
         i += 1;
     }
-    put(b"\n");
     i
 }
 
 // The same for 16-bit samples.
-pub fn print_samples_u16(title: &[u8], samples: &[u16]) -> usize
+pub fn write_samples_u16(title: &[u8], samples: &[u16]) -> usize
     ensures { λ r. ⌜ r ≡ length (now (samples .entry)) ⌝ }
 {
     put(title);
@@ -80,8 +86,53 @@ pub fn print_samples_u16(title: &[u8], samples: &[u16]) -> usize
         put_u16(samples[i]);
         i += 1;
     }
-    put(b"\n");
     i
+}
+
+// A title and bytes on a line of their own.
+pub fn print_samples_u8(title: &[u8], samples: &[u8]) -> usize
+    ensures { λ r. ⌜ r ≡ length (now (samples .entry)) ⌝ }
+{
+    let n = write_samples_u8(title, samples);
+    put(b"\n");
+    n
+}
+
+// A title and 16-bit samples on a line of their own.
+pub fn print_samples_u16(title: &[u8], samples: &[u16]) -> usize
+    ensures { λ r. ⌜ r ≡ length (now (samples .entry)) ⌝ }
+{
+    let n = write_samples_u16(title, samples);
+    put(b"\n");
+    n
+}
+
+fn put_held(zero: bool, found: bool) {
+    if zero {
+        put(b"workspace zero");
+    } else if found {
+        put(b"workspace as found");
+    } else {
+        put(b"workspace changed");
+    }
+}
+
+// Writes whether a workspace that held `found` throughout is now wholly zero, as found, or neither. Gives whether it is zero.
+pub fn write_workspace(workspace: &[u32], found: u32) -> bool
+    ensures { λ r. ⌜ r ≡ everyIs 0 (now (workspace .entry)) ⌝ }
+{
+    let zero = every_u32(workspace, 0);
+    put_held(zero, every_u32(workspace, found));
+    zero
+}
+
+// The same on a line of its own.
+pub fn print_workspace(workspace: &[u32], found: u32) -> bool
+    ensures { λ r. ⌜ r ≡ everyIs 0 (now (workspace .entry)) ⌝ }
+{
+    let zero = write_workspace(workspace, found);
+    put(b"\n");
+    zero
 }
 
 // Whether every byte is v.

@@ -1,6 +1,8 @@
-// What the programs print, and the tests that they print the outcome of: an answer, samples, and whether a stretch of memory
-// holds one value throughout. No contract can say which bytes reach standard output (the crate io's guide); those here say what
+// What the programs share: what they print, the tests that they print the outcome of (whether a stretch of memory holds one value
+// throughout), and what they lend (given). No contract can say which bytes reach standard output (the crate io's guide); those here say what
 // is handed back to the program.
+pub mod given;
+
 use scope::Answer;
 use scope::Place;
 ghost use mathlib.Core.Path.{_≡_};
@@ -37,13 +39,14 @@ fn put_place(p: Place) {
     }
 }
 
-// Writes an answer, `planes` or `refusal 12 at slice 0`, and gives its number in document 01's table (0 for planes).
-pub fn write_answer(a: Answer) -> u32
+// Writes an answer, as `refusal 12 at slice 0` or, where nothing is refused, the word for that, and gives its number in document
+// 01's table (0 where nothing is refused).
+pub fn write_answer(done: &[u8], a: Answer) -> u32
     ensures { λ r. ⌜ r ≡ numberOf a ⌝ }
 {
     match a {
         Answer::Done => {
-            put(b"planes");
+            put(done);
             0
         }
         Answer::Refused(n, p) => {
@@ -54,11 +57,11 @@ pub fn write_answer(a: Answer) -> u32
     }
 }
 
-// The same on a line of its own.
+// A frame entry's answer on a line of its own, `planes` where nothing is refused.
 pub fn print_answer(a: Answer) -> u32
     ensures { λ r. ⌜ r ≡ numberOf a ⌝ }
 {
-    let n = write_answer(a);
+    let n = write_answer(b"planes", a);
     put(b"\n");
     n
 }
@@ -109,28 +112,30 @@ pub fn print_samples_u16(title: &[u8], samples: &[u16]) -> usize
 
 fn put_held(zero: bool, found: bool) {
     if zero {
-        put(b"workspace zero");
+        put(b" zero");
     } else if found {
-        put(b"workspace as found");
+        put(b" as found");
     } else {
-        put(b"workspace changed");
+        put(b" changed");
     }
 }
 
-// Writes whether a workspace that held `found` throughout is now wholly zero, as found, or neither. Gives whether it is zero.
-pub fn write_workspace(workspace: &[u32], found: u32) -> bool
+// Writes a title, then whether a workspace that held `found` throughout is now wholly zero, as found, or neither. Gives whether it
+// is zero.
+pub fn write_workspace(title: &[u8], workspace: &[u32], found: u32) -> bool
     ensures { λ r. ⌜ r ≡ everyIs 0 (now (workspace .entry)) ⌝ }
 {
+    put(title);
     let zero = every_u32(workspace, 0);
     put_held(zero, every_u32(workspace, found));
     zero
 }
 
 // The same on a line of its own.
-pub fn print_workspace(workspace: &[u32], found: u32) -> bool
+pub fn print_workspace(title: &[u8], workspace: &[u32], found: u32) -> bool
     ensures { λ r. ⌜ r ≡ everyIs 0 (now (workspace .entry)) ⌝ }
 {
-    let zero = write_workspace(workspace, found);
+    let zero = write_workspace(title, workspace, found);
     put(b"\n");
     zero
 }

@@ -35,6 +35,9 @@ pub mod container;
 pub mod descriptors;
 pub mod formats;
 mod geometry;
+#[cfg(feature = "kit_emulator")]
+#[allow(unsafe_code)]
+mod kit_emulator;
 pub mod model;
 
 pub use answer::{Answer, Place};

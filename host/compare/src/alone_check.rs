@@ -193,8 +193,9 @@ fn answered(outcome: &Outcome, wanted: Answer) -> Result<(), String> {
 
 /// The word at a position, from a table's words and m alone.
 fn lookup(words: &[u32], m: u32, payload: &[u8], position: usize) -> Option<(u32, u16)> {
+    // A wrong table may point past its own end; that is no word, and is reported as such.
     let slot = |at: usize| {
-        let word = words[at];
+        let word = words.get(at).copied().unwrap_or(0);
         (word % 256 != 0).then_some((word % 256, (word / 256) as u16))
     };
     if m <= 12 {

@@ -28,7 +28,8 @@ def environment():
 
 def copy_of_host():
     shutil.rmtree(COPY, ignore_errors=True)
-    shutil.copytree(HOST, COPY, ignore=shutil.ignore_patterns("target"))
+    # Without the files' times: cargo must not take what an earlier run built for this copy.
+    shutil.copytree(HOST, COPY, ignore=shutil.ignore_patterns("target"), copy_function=shutil.copyfile)
 
 
 def compared():

@@ -79,8 +79,7 @@ fn say_what_is_compared() {
     match backing() {
         Backing::Archive => println!("comparing the archive, the model and the customer's Rust"),
         Backing::Model => println!(
-            "NO ARCHIVE WAS THERE AT BUILD TIME: comparing the model of document 01 with the \
-             customer's Rust"
+            "BUILT WITHOUT AN ARCHIVE: comparing the model of document 01 with the customer's Rust"
         ),
     }
 }

@@ -176,10 +176,10 @@ impl Comparison {
 
     /// Where ours is the archive, the model must leave the same.
     fn third(&self, ours: &Outcome, model: &Outcome) -> Result<(), String> {
-        if magicyuv_host::backing() == Backing::Archive && ours != model {
-            return Err(format!("ours {}, model {}, or other memory", ours.answer, model.answer));
+        match magicyuv_host::backing() {
+            Backing::Archive => left::as_the_model(ours, model),
+            Backing::Model => Ok(()),
         }
-        Ok(())
     }
 }
 

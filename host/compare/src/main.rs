@@ -88,6 +88,10 @@ fn run_plan(plan: &Plan) -> ExitCode {
     println!("{plan:?}");
     let (comparison, found) = run::run(plan);
     print!("{}", comparison.tally.report());
+    if let Some(suited) = comparison.ours.nothing_spoiled() {
+        println!("NOTHING WAS SPOILED: {suited} inputs suit, and --spoil-at asks for a later one");
+        return ExitCode::FAILURE;
+    }
     if found.count == 0 {
         println!("differences inside the domain: 0");
         return ExitCode::SUCCESS;

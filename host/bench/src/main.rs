@@ -17,8 +17,8 @@ use magicyuv_host::{backing, core, Answer, Backing, Core, Family};
 use oracle::decoder::{decode_into, DecodedFrame, Samples};
 use std::time::Instant;
 
-/// Runs of each side.
-const RUNS: usize = 15;
+/// Runs of each side, enough that some of them meet a quiet moment of a busy machine.
+const RUNS: usize = 51;
 
 /// What our side is lent, kept over all runs.
 struct Kept {

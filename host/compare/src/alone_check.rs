@@ -98,8 +98,11 @@ impl Comparison {
         for position in 0..8 * payload.len() + 20 {
             let found = lookup(&built.words, code.longest(), payload, position);
             let symbol = rust_side::symbol_at(&theirs, payload, position);
-            if found.map(|(_, s)| s) != symbol || found != code.word_at(payload, position) {
-                return Err(format!("bit {position}: {found:?}, the Rust {symbol:?}"));
+            let wanted = code.word_at(payload, position);
+            if found.map(|(_, s)| s) != symbol || found != wanted {
+                return Err(format!(
+                    "bit {position}: {found:?}, the model {wanted:?}, the Rust {symbol:?}"
+                ));
             }
         }
         Ok(())

@@ -12,7 +12,7 @@
 //! * [`model`]: document 01 once more, in plain and slow Rust.
 //!
 //! A build without the archive stops, unless `MAGICYUV_ARCHIVE=none` asked for the model in its place.
-//! [`backing`] says which of the two answers, and each program prints it first.
+//! [`backing`] says which of the two answers, and the programs print it.
 //!
 //! ```
 //! use magicyuv_host::{decode8, Answer, Family, Geometry};

@@ -114,13 +114,13 @@ fn machine() -> String {
 }
 
 fn main() {
-    println!("{}", machine());
     match backing() {
         Backing::Archive => println!("timing the archive against the customer's Rust"),
         Backing::Model => {
             println!("BUILT WITHOUT AN ARCHIVE: timing the slow model against the customer's Rust")
         }
     }
+    println!("{}", machine());
     let (w, h, s) = (pictures::WIDTH, pictures::HEIGHT, pictures::SLICE);
     let runs = if backing() == Backing::Model { 3 } else { RUNS };
     println!("{w} by {h}, slice height {s}; {runs} runs, nanoseconds a sample");

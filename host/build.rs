@@ -11,13 +11,19 @@ fn default_place() -> PathBuf {
     Path::new(&here).join("../target/staticlib/libmagicyuv.a")
 }
 
+/// Ends the build with a message and nothing around it.
+fn stop(message: &str) -> ! {
+    eprintln!("{message}");
+    std::process::exit(1)
+}
+
 fn chosen() -> Option<PathBuf> {
     match std::env::var("MAGICYUV_ARCHIVE") {
         Ok(word) if word == "none" => None,
         Ok(word) if !word.is_empty() => {
             let place = PathBuf::from(&word);
             if !place.is_file() {
-                panic!("MAGICYUV_ARCHIVE names {word}, and there is no such file");
+                stop(&format!("MAGICYUV_ARCHIVE names {word}, and there is no such file"));
             }
             Some(place)
         }
@@ -40,10 +46,11 @@ fn main() {
     println!("cargo:rerun-if-changed={}", place.display());
     // A host that quietly decoded with something else than the proved core would be the worst of answers.
     if !place.is_file() {
-        panic!(
-            "no archive at {}: run `rt staticlib magicyuv` at the repository's root, or set MAGICYUV_ARCHIVE=none to try the programs on the model",
+        stop(&format!(
+            "no archive at {}: run `rt staticlib magicyuv` at the repository's root, or set \
+             MAGICYUV_ARCHIVE=none to try the programs on the model",
             place.display()
-        );
+        ));
     }
     link(&place);
 }

@@ -35,12 +35,15 @@ fn source_folder() -> PathBuf {
     let holds_files = |folder: &PathBuf| folder.join(FILES[0]).is_file();
     match [asked.join("src"), asked.clone()].into_iter().find(holds_files) {
         Some(folder) => folder,
-        None => panic!(
-            "\n\nThe customer's Rust is not at {}.\nIt is looked for in ../shared/docs/src beside \
-             the repository; set MAGICYUV_SRC to the folder that holds it.\nThe host crate alone \
-             builds without it: cargo build --release -p magicyuv-host\n\n",
-            asked.display()
-        ),
+        None => {
+            eprintln!("the customer's Rust is not at {}.", asked.display());
+            eprintln!("It is looked for in ../shared/docs/src from the repository's root; set");
+            eprintln!(
+                "MAGICYUV_SRC to the folder that holds it. The host crate alone builds without"
+            );
+            eprintln!("it: cargo build --release -p magicyuv-host");
+            std::process::exit(1)
+        }
     }
 }
 

@@ -69,17 +69,16 @@ extern "C" {
     ) -> Reply;
 }
 
-/// The reply as a typed answer. A reply outside the boundary's rules is a broken archive.
+/// The reply as a typed answer. A reply outside the boundary's rules is a broken archive: the proved one
+/// gives none.
 fn answer(reply: Reply) -> Answer {
-    let place = match reply.kind {
-        0 => Place::Nothing,
-        1 => Place::Slice(reply.place),
-        2 => Place::Plane(reply.place),
-        other => panic!("the archive answered a place of kind {other}"),
-    };
-    match reply.number {
-        0 => Answer::Planes,
-        number => Answer::Refused { number, place },
+    let refused = |place| Answer::Refused { number: reply.number, place };
+    match (reply.number, reply.kind, reply.place) {
+        (0, 0, 0) => Answer::Planes,
+        (1.., 0, 0) => refused(Place::Nothing),
+        (1.., 1, slice) => refused(Place::Slice(slice)),
+        (1.., 2, plane) => refused(Place::Plane(plane)),
+        other => panic!("the archive answered {other:?}, which says nothing"),
     }
 }
 

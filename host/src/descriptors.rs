@@ -106,7 +106,7 @@ pub fn write(lengths: &[u8], shortest_run: usize) -> Vec<u8> {
         if run >= shortest_run.max(1) {
             out.extend([128 + length, (run - 1) as u8]);
         } else {
-            out.extend(std::iter::repeat(length).take(run));
+            out.resize(out.len() + run, length);
         }
         at += run;
     }

@@ -11,8 +11,8 @@
 //! * [`decode8`], [`decode16`], [`build`] and [`read`]: the four entries;
 //! * [`model`]: document 01 once more, in plain and slow Rust.
 //!
-//! When no archive was there at build time, the model stands in for it behind the same four
-//! functions; [`backing`] says which of the two answers, and each program prints it first.
+//! A build without the archive stops, unless `MAGICYUV_ARCHIVE=none` asked for the model in its place.
+//! [`backing`] says which of the two answers, and the programs print it.
 //!
 //! ```
 //! use magicyuv_host::{decode8, Answer, Family, Geometry};
@@ -35,6 +35,9 @@ pub mod container;
 pub mod descriptors;
 pub mod formats;
 mod geometry;
+#[cfg(feature = "kit_emulator")]
+#[allow(unsafe_code)]
+mod kit_emulator;
 pub mod model;
 
 pub use answer::{Answer, Place};
@@ -77,7 +80,7 @@ pub trait Core: Sync {
 pub enum Backing {
     /// The archive, written and proved in Rattle.
     Archive,
-    /// The model of document 01, because no archive was there at build time.
+    /// The model of document 01, because the build was asked for no archive.
     Model,
 }
 

@@ -17,8 +17,8 @@ use magicyuv_host::{backing, core, Answer, Backing, Core, Family};
 use oracle::decoder::{decode_into, DecodedFrame, Samples};
 use std::time::Instant;
 
-/// Runs of each side.
-const RUNS: usize = 15;
+/// Runs of each side, enough that some of them meet a quiet moment of a busy machine.
+const RUNS: usize = 51;
 
 /// What our side is lent, kept over all runs.
 struct Kept {
@@ -99,13 +99,28 @@ fn one(name: &str, draft: &Draft, runs: usize) {
     println!();
 }
 
+/// The processor, how many of them, and how busy the machine is, as far as the system says it.
+fn machine() -> String {
+    let read = |file: &str| std::fs::read_to_string(file).unwrap_or_default();
+    let info = read("/proc/cpuinfo");
+    let name = info.lines().find_map(|l| l.strip_prefix("model name")).unwrap_or(": unknown");
+    let count = std::thread::available_parallelism().map_or(0, |n| n.get());
+    let load = read("/proc/loadavg");
+    let load = load.split(' ').next().unwrap_or("").to_string();
+    format!(
+        "{}, {count} cores, load {load} at the start",
+        name.trim_start_matches([' ', '\t', ':'])
+    )
+}
+
 fn main() {
     match backing() {
         Backing::Archive => println!("timing the archive against the customer's Rust"),
-        Backing::Model => println!(
-            "NO ARCHIVE WAS THERE AT BUILD TIME: timing the slow model against the customer's Rust"
-        ),
+        Backing::Model => {
+            println!("BUILT WITHOUT AN ARCHIVE: timing the slow model against the customer's Rust")
+        }
     }
+    println!("{}", machine());
     let (w, h, s) = (pictures::WIDTH, pictures::HEIGHT, pictures::SLICE);
     let runs = if backing() == Backing::Model { 3 } else { RUNS };
     println!("{w} by {h}, slice height {s}; {runs} runs, nanoseconds a sample");

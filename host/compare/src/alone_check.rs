@@ -98,8 +98,11 @@ impl Comparison {
         for position in 0..8 * payload.len() + 20 {
             let found = lookup(&built.words, code.longest(), payload, position);
             let symbol = rust_side::symbol_at(&theirs, payload, position);
-            if found.map(|(_, s)| s) != symbol || found != code.word_at(payload, position) {
-                return Err(format!("bit {position}: {found:?}, the Rust {symbol:?}"));
+            let wanted = code.word_at(payload, position);
+            if found.map(|(_, s)| s) != symbol || found != wanted {
+                return Err(format!(
+                    "bit {position}: {found:?}, the model {wanted:?}, the Rust {symbol:?}"
+                ));
             }
         }
         Ok(())
@@ -176,10 +179,10 @@ impl Comparison {
 
     /// Where ours is the archive, the model must leave the same.
     fn third(&self, ours: &Outcome, model: &Outcome) -> Result<(), String> {
-        if magicyuv_host::backing() == Backing::Archive && ours != model {
-            return Err(format!("ours {}, model {}, or other memory", ours.answer, model.answer));
+        match magicyuv_host::backing() {
+            Backing::Archive => left::as_the_model(ours, model),
+            Backing::Model => Ok(()),
         }
-        Ok(())
     }
 }
 
@@ -193,8 +196,9 @@ fn answered(outcome: &Outcome, wanted: Answer) -> Result<(), String> {
 
 /// The word at a position, from a table's words and m alone.
 fn lookup(words: &[u32], m: u32, payload: &[u8], position: usize) -> Option<(u32, u16)> {
+    // A wrong table may point past its own end; that is no word, and is reported as such.
     let slot = |at: usize| {
-        let word = words[at];
+        let word = words.get(at).copied().unwrap_or(0);
         (word % 256 != 0).then_some((word % 256, (word / 256) as u16))
     };
     if m <= 12 {

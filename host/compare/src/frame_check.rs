@@ -174,8 +174,8 @@ impl Comparison {
         runs.left(None)
     }
 
-    /// Runs on noise and on its complement; both must answer the same, and, where ours is the
-    /// archive, leave the very memory that the model leaves.
+    /// Runs on noise and on its complement; both must answer the same. Where ours is the archive the
+    /// model runs too.
     fn twice(&mut self, lent: &Lent, seed: u64) -> Result<Runs, String> {
         self.tally.calls += 2;
         let one = self.ours.decode(lent, seed, false);
@@ -183,16 +183,11 @@ impl Comparison {
         if one.answer != other.answer {
             return Err(format!("{} on some noise, {} on other", one.answer, other.answer));
         }
-        if magicyuv_host::backing() == Backing::Archive {
-            let model = Ours::model().decode(lent, seed, false);
-            if model != one {
-                return Err(format!(
-                    "ours {}, model {}, or other memory",
-                    one.answer, model.answer
-                ));
-            }
-        }
-        Ok(Runs { one, other })
+        let model = match magicyuv_host::backing() {
+            Backing::Archive => Some(Ours::model().decode(lent, seed, false)),
+            Backing::Model => None,
+        };
+        Ok(Runs { one, other, model })
     }
 
     /// Lends something else with the same frame: a size one short or one over, a workspace one short,
@@ -268,10 +263,11 @@ impl Comparison {
     }
 }
 
-/// Two runs with the same answer.
+/// Two runs with the same answer, and the model's on the memory of the first.
 struct Runs {
     one: Outcome,
     other: Outcome,
+    model: Option<Outcome>,
 }
 
 impl Runs {
@@ -283,9 +279,11 @@ impl Runs {
         }
     }
 
+    /// What is left: by document 01 and the picture first, so that a report names them, then by the model.
     fn left(&self, picture: Option<&[u16]>) -> Result<(), String> {
         left::frame(&self.one, picture)?;
-        left::frame(&self.other, picture)
+        left::frame(&self.other, picture)?;
+        self.model.as_ref().map_or(Ok(()), |model| left::as_the_model(&self.one, model))
     }
 }
 

@@ -1,5 +1,5 @@
 //! What document 01 says is left in lent memory, judged from the memory before a call, the answer and
-//! the picture. Nothing here looks at how the model leaves it.
+//! the picture. Only `as_the_model` looks at how the model leaves it.
 
 use crate::our_side::Outcome;
 
@@ -74,4 +74,13 @@ pub fn table(outcome: &Outcome, table: Option<&[u32]>) -> Result<(), String> {
         (0, None) => Err("a table was built where none is".into()),
         _ => as_found(outcome),
     }
+}
+
+/// The model, asked the same on the same memory, must answer the same and leave the same.
+pub fn as_the_model(ours: &Outcome, model: &Outcome) -> Result<(), String> {
+    if ours.answer != model.answer {
+        return Err(format!("ours {}, the model {}", ours.answer, model.answer));
+    }
+    same("by the model, sample", &ours.samples, &model.samples)?;
+    same("by the model, workspace word", &ours.words, &model.words)
 }

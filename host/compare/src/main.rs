@@ -79,8 +79,7 @@ fn say_what_is_compared() {
     match backing() {
         Backing::Archive => println!("comparing the archive, the model and the customer's Rust"),
         Backing::Model => println!(
-            "NO ARCHIVE WAS THERE AT BUILD TIME: comparing the model of document 01 with the \
-             customer's Rust"
+            "BUILT WITHOUT AN ARCHIVE: comparing the model of document 01 with the customer's Rust"
         ),
     }
 }
@@ -89,6 +88,10 @@ fn run_plan(plan: &Plan) -> ExitCode {
     println!("{plan:?}");
     let (comparison, found) = run::run(plan);
     print!("{}", comparison.tally.report());
+    if let Some(suited) = comparison.ours.nothing_spoiled() {
+        println!("NOTHING WAS SPOILED: {suited} inputs suit, and --spoil-at asks for a later one");
+        return ExitCode::FAILURE;
+    }
     if found.count == 0 {
         println!("differences inside the domain: 0");
         return ExitCode::SUCCESS;

@@ -80,6 +80,11 @@ impl Ours {
         Ours { core: magicyuv_host::core(), spoil, suited: 0, now: false }
     }
 
+    /// Whether a spoiling was asked for and no input's turn came, and how many inputs suited it.
+    pub fn nothing_spoiled(&self) -> Option<u64> {
+        self.spoil.filter(|spoil| self.suited < spoil.at).map(|_| self.suited)
+    }
+
     /// The model, never spoiled.
     pub fn model() -> Ours {
         Ours { core: &Model, spoil: None, suited: 0, now: false }

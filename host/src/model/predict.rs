@@ -30,7 +30,7 @@ impl Predictor {
             Predictor::Left => left,
             Predictor::Gradient => gradient(left, top, top_left, depth),
             Predictor::Median if depth == 8 => {
-                gradient(left, top, top_left, 8).clamp(left.min(top), left.max(top))
+                gradient(left, top, top_left, depth).clamp(left.min(top), left.max(top))
             }
             Predictor::Median => median(left, top, top_left),
         }

@@ -1,6 +1,10 @@
 // The host's boundary: the product's functions as extern "C", on numbers and slices. An enum cannot cross it, so a Reply of three
 // numbers stands in for the answer; each function is proved to reply just the answer's number and place.
+// deep.rt has the entry for depths 10, 12 and 14.
 
+mod deep;
+
+pub use deep::magicyuv_decode16;
 use scope::Answer;
 use scope::Family;
 use scope::Geometry;
@@ -130,44 +134,6 @@ pub extern "C" fn magicyuv_decode8(
         interlaced,
     );
     let a = decode::decode8(frame, g, lengths, planes, workspace);
-    reply_of(a)
-}
-
-// Document 01's entry for depths 10, 12 and 14.
-#[no_mangle]
-pub extern "C" fn magicyuv_decode16(
-    frame: &[u8],
-    lengths: &[u8],
-    planes: &mut [u16],
-    workspace: &mut [u32],
-    width: u32,
-    height: u32,
-    slice_height: u32,
-    family: u32,
-    sx: u32,
-    sy: u32,
-    depth: u32,
-    interlaced: u32,
-) -> Reply
-    ensures { λ r. ⌜ Hosted true (now (frame .entry)) (numbers width height «slice_height» family sx sy depth interlaced) (now (lengths .entry)) (now (planes .entry)) (now (workspace .entry)) r (now (planes .exit)) (now (workspace .exit)) ⌝ }
-{
-    if 4 < family {
-        return reply_of(Answer::Refused(1, Place::Nothing));
-    }
-    if 1 < interlaced {
-        return reply_of(Answer::Refused(1, Place::Nothing));
-    }
-    let g = geometry(
-        width,
-        height,
-        slice_height,
-        family,
-        sx,
-        sy,
-        depth,
-        interlaced,
-    );
-    let a = decode::decode16(frame, g, lengths, planes, workspace);
     reply_of(a)
 }
 

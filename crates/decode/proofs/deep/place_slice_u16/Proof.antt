@@ -1,56 +1,38 @@
-use Rattle.decode.proofs.Filling.{placing, plane-four, table-there, place-in, place-sliced, place-with}
-use native.Mathlib.Omega.{arith}
+use Rattle.decode.proofs.Filling.{plane-four, table-there, place-in, place-sliced, place-with}
 use borrow.Author.Needs.{needs}
-use Rattle.decode.proofs.place_slice_u16.Statement.{statement}
-use Rattle.decode.proofs.place_slice_u16.Tie as tie
-use Rattle.decode.proofs.place_slice_u16.Reads as reads
-use Rattle.decode.proofs.place_slice_u16.Lts as lts
-use Rattle.figures.proofs.place_samples.Reads as place-samples-reads
-use Rattle.figures.proofs.place_start.Reads as place-start-reads
-use Rattle.reading.proofs.slice_u16.Reads as slice-u16-reads
-use Rattle.tables.proofs.code_of.Reads as code-of-reads
+use Rattle.decode.proofs.deep.place_slice_u16.Statement.{statement}
+use Rattle.decode.proofs.deep.place_slice_u16.Tie as tie
 
--- src/lib.rt:106:9
 place-start-requires : tie.Need-place-start-requires
 place-start-requires c κs = search needs
 
--- src/lib.rt:107:9
 place-samples-requires : tie.Need-place-samples-requires
 place-samples-requires c κs = search needs
 
--- src/lib.rt:108:9
 code-of-requires : tie.Need-code-of-requires
 code-of-requires c κs = search plane-four
 
--- src/lib.rt:109:104
 add-slice-u16 : tie.Need-add-slice-u16
 add-slice-u16 c = search needs
 
--- src/lib.rt:109:88
 mul-slice-u16 : tie.Need-mul-slice-u16
 mul-slice-u16 c = search needs
 
--- src/lib.rt:109:88
 sub-slice-u16 : tie.Need-sub-slice-u16
 sub-slice-u16 c = search needs
 
--- src/lib.rt:109:88
 part-slice-u16-start : tie.Need-part-slice-u16-start
 part-slice-u16-start c = search needs
 
--- src/lib.rt:109:88
 part-slice-u16-end : tie.Need-part-slice-u16-end
 part-slice-u16-end c = search place-in
 
--- src/lib.rt:109:5
 slice-u16-requires : tie.Need-slice-u16-requires
 slice-u16-requires c κs = (search place-sliced, (search table-there, search needs))
 
--- src/lib.rt:85:1
 same-length : tie.Need-same-length
 same-length c = search needs
 
--- src/lib.rt:85:1
 returns : tie.Need-returns
 returns c = (search needs, λ e. place-with _ _ _ _ _ _ (c .before .before .before .before .before .before .before .before .before .before .before .pre .1 .1 .0) _ _ (c .before .before .before .before .before .before .place-start .ensures .0) (c .before .before .before .before .before .place-samples .ensures .0) _ _ (c .before .before .slice-u16 .ensures .1 e))
 

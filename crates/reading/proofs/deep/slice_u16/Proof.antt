@@ -1,100 +1,69 @@
 use mathlib.Core.Path.{refl}
-use Rattle.reading.proofs.Slices.{slicing, prefix-ok, end-ok, kind-in, raw-room, no-kind-0, no-kind-4, lengths-room, lengths-few, lengths-256, lengths-table, slice-done, slice-stuck, slice-samples, depth-16, depth-14, not-done}
-use native.Mathlib.Omega.{arith}
+use Rattle.reading.proofs.Slices.{slicing, prefix-ok, end-ok, kind-in, no-kind-0, no-kind-4, lengths-few, lengths-table, slice-done, slice-stuck, slice-samples, depth-16, depth-14, not-done}
 use borrow.Author.Needs.{needs}
-use Rattle.reading.proofs.slice_u16.Statement.{statement}
-use Rattle.reading.proofs.slice_u16.Tie as tie
-use Rattle.reading.proofs.slice_u16.Reads as reads
-use Rattle.reading.proofs.slice_u16.Lts as lts
-use Rattle.figures.proofs.fields_of.Reads as fields-of-reads
-use Rattle.figures.proofs.plane_width.Reads as plane-width-reads
-use Rattle.figures.proofs.symbol_count.Reads as symbol-count-reads
-use Rattle.layout.proofs.slice_end.Reads as slice-end-reads
-use Rattle.layout.proofs.slice_start.Reads as slice-start-reads
-use Rattle.predict.proofs.rebuild_u16.Reads as rebuild-u16-reads
-use Rattle.reading.proofs.residues_u16.Reads as residues-u16-reads
+use Rattle.reading.proofs.deep.slice_u16.Statement.{statement}
+use Rattle.reading.proofs.deep.slice_u16.Tie as tie
 
--- src/lib.rt:179:9
 slice-start-requires : tie.Need-slice-start-requires
 slice-start-requires c κs = search needs
 
--- src/lib.rt:180:9
 slice-end-requires : tie.Need-slice-end-requires
 slice-end-requires c κs = search needs
 
--- src/lib.rt:181:22
 add-kind : tie.Need-add-kind
 add-kind c = search needs
 
--- src/lib.rt:181:16
 shared-slice-read-kind : tie.Need-shared-slice-read-kind
 shared-slice-read-kind c = search kind-in
 
--- src/lib.rt:183:9
 returns : tie.Need-returns
 returns c = (search no-kind-0, λ e. search not-done)
 
--- src/lib.rt:186:9
 returns-2 : tie.Need-returns-2
 returns-2 c = (search no-kind-4, λ e. search not-done)
 
--- src/lib.rt:189:9
 symbol-count-requires : tie.Need-symbol-count-requires
 symbol-count-requires c κs = search (depth-14, needs)
 
--- src/lib.rt:190:54
 mul-residues-u16 : tie.Need-mul-residues-u16
 mul-residues-u16 c = search slicing
 
--- src/lib.rt:190:61
 mul-residues-u16-2 : tie.Need-mul-residues-u16-2
 mul-residues-u16-2 c = search slicing
 
--- src/lib.rt:190:61
 add-residues-u16 : tie.Need-add-residues-u16
 add-residues-u16 c = search slicing
 
--- src/lib.rt:190:45
 sub-residues-u16 : tie.Need-sub-residues-u16
 sub-residues-u16 c = search needs
 
--- src/lib.rt:190:45
 part-residues-u16-start : tie.Need-part-residues-u16-start
 part-residues-u16-start c = search needs
 
--- src/lib.rt:190:45
 part-residues-u16-end : tie.Need-part-residues-u16-end
 part-residues-u16-end c = search slicing
 
--- src/lib.rt:190:8
 residues-u16-requires : tie.Need-residues-u16-requires
 residues-u16-requires c κs = (search lengths-table, ((search lengths-few, search needs), ((search prefix-ok, search end-ok), (search needs, search depth-16))))
 
--- src/lib.rt:191:13
 plane-width-requires : tie.Need-plane-width-requires
 plane-width-requires c κs = search needs
 
--- src/lib.rt:192:13
 fields-of-requires : tie.Need-fields-of-requires
 fields-of-requires c κs = search needs
 
--- src/lib.rt:193:9
 rebuild-u16-requires : tie.Need-rebuild-u16-requires
 rebuild-u16-requires c κs = (search needs, (search needs, (search needs, search depth-16)))
 
--- src/lib.rt:194:9
 same-length : tie.Need-same-length
 same-length c = search needs
 
--- src/lib.rt:194:9
 returns-3 : tie.Need-returns-3
 returns-3 c = (slice-done _ _ _ _ _ _ _ (c .before .before .before .before .before .before .before .before .before .before .before .before .before .before .before .before .before .before .before .before .before .before .pre .0) _ _ (c .before .before .before .before .before .before .before .before .before .before .before .before .before .before .before .before .before .slice-start .ensures .0) (c .before .before .before .before .before .before .before .before .before .before .before .before .before .before .before .before .slice-end .ensures) _ refl _ _ refl (c .before .before .before .before .before .before .before .before .before .before .before .before .symbol-count .ensures .0) (c .before .before .before .before .before .before .before .before .before .before .before .before .before .before .if1 .left) (c .before .before .before .before .before .before .before .before .before .before .before .before .before .if2 .left) _ _ (c .before .before .before .before .before .before .before .before .before .residues-u16 .ensures) (c .before .before .before .before .before .before .if3 .taken), λ e. slice-samples _ _ _ _ _ _ _ (c .before .before .before .before .before .before .before .before .before .before .before .before .before .before .before .before .before .before .before .before .before .before .pre .0) _ _ (c .before .before .before .before .before .before .before .before .before .before .before .before .before .before .before .before .before .slice-start .ensures .0) (c .before .before .before .before .before .before .before .before .before .before .before .before .before .before .before .before .slice-end .ensures) _ refl _ _ refl (c .before .before .before .before .before .before .before .before .before .before .before .before .symbol-count .ensures .0) (c .before .before .before .before .before .before .before .before .before .before .before .before .before .before .if1 .left) (c .before .before .before .before .before .before .before .before .before .before .before .before .before .if2 .left) _ _ (c .before .before .before .before .before .before .before .before .before .residues-u16 .ensures) _ _ _ (c .before .before .before .before .before .before .if3 .taken) (c .before .before .before .before .before .plane-width .ensures .0) (c .before .before .before .before .fields-of .ensures .0) (c .before .before .rebuild-u16 .ensures))
 
--- src/lib.rt:160:1
 same-length-2 : tie.Need-same-length-2
 same-length-2 c = search needs
 
--- src/lib.rt:160:1
 returns-4 : tie.Need-returns-4
 returns-4 c = (slice-stuck _ _ _ _ _ _ _ (c .before .before .before .before .before .before .before .before .before .before .before .before .before .before .before .before .pre .0) _ _ (c .before .before .before .before .before .before .before .before .before .before .before .slice-start .ensures .0) (c .before .before .before .before .before .before .before .before .before .before .slice-end .ensures) _ refl _ _ refl (c .before .before .before .before .before .before .symbol-count .ensures .0) (c .before .before .before .before .before .before .before .before .if1 .left) (c .before .before .before .before .before .before .before .if2 .left) _ _ (c .before .before .before .residues-u16 .ensures) (c .if3 .left), λ e. search not-done)
 

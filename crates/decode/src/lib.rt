@@ -90,7 +90,7 @@ fn read_slices_u8(
             Answer::Refused(n, w) => return Answer::Refused(n, w),
         }
     }
-    Answer::Done
+    Answer::Done // every slice is in its place
 }
 
 // The checks, the tables, the reading and the colours of depth 8. What a refusal leaves in lent memory is not said: the entry clears it.
@@ -109,15 +109,15 @@ fn run_u8(
 {
     let a = frame::check_frame(frame, g, lengths, workspace.len());
     match a {
-        Answer::Refused(n, w) => Answer::Refused(n, w),
+        Answer::Refused(n, w) => Answer::Refused(n, w), // 5 to 14: nothing was written
         Answer::Done => {
             let codes = tables::build_all(g, lengths, workspace);
             let b = read_slices_u8(frame, g, lengths, workspace, codes, planes);
             match b {
-                Answer::Refused(n, w) => Answer::Refused(n, w),
+                Answer::Refused(n, w) => Answer::Refused(n, w), // 15 or 14: some slices were read
                 Answer::Done => {
                     planes::add_green_u8(g, planes);
-                    Answer::Done
+                    Answer::Done // the planes are the picture
                 }
             }
         }
@@ -137,18 +137,18 @@ pub fn decode8(
 {
     let a = lent::lent_checks(false, g, lengths.len(), planes.len());
     match a {
-        Answer::Refused(n, w) => Answer::Refused(n, w),
+        Answer::Refused(n, w) => Answer::Refused(n, w), // 1 to 4: both are as found
         Answer::Done => {
             let r = run_u8(frame, g, lengths, planes, workspace);
             match r {
                 Answer::Refused(n, w) => {
                     memory::clear_u8(planes);
                     memory::clear_u32(workspace);
-                    Answer::Refused(n, w)
+                    Answer::Refused(n, w) // both are wholly zero
                 }
                 Answer::Done => {
                     memory::clear_u32(workspace);
-                    Answer::Done
+                    Answer::Done // the tables are gone, the picture stays
                 }
             }
         }

@@ -27,10 +27,10 @@ pub extern "C" fn magicyuv_decode16(
     ensures { λ r. ⌜ Hosted true (now (frame .entry)) (numbers width height «slice_height» family sx sy depth interlaced) (now (lengths .entry)) (now (planes .entry)) (now (workspace .entry)) r (now (planes .exit)) (now (workspace .exit)) ⌝ }
 {
     if 4 < family {
-        return crate::reply_of(Answer::Refused(1, Place::Nothing));
+        return crate::reply_of(Answer::Refused(1, Place::Nothing)); // no such family
     }
     if 1 < interlaced {
-        return crate::reply_of(Answer::Refused(1, Place::Nothing));
+        return crate::reply_of(Answer::Refused(1, Place::Nothing)); // neither interlaced nor not
     }
     let g = crate::geometry(
         width,
@@ -42,6 +42,6 @@ pub extern "C" fn magicyuv_decode16(
         depth,
         interlaced,
     );
-    let a = decode::decode16(frame, g, lengths, planes, workspace);
-    crate::reply_of(a)
+    let decoded = decode::decode16(frame, g, lengths, planes, workspace);
+    crate::reply_of(decoded)
 }

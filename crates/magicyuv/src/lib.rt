@@ -118,10 +118,10 @@ pub extern "C" fn magicyuv_decode8(
     ensures { λ r. ⌜ Hosted false (now (frame .entry)) (numbers width height «slice_height» family sx sy depth interlaced) (now (lengths .entry)) (now (planes .entry)) (now (workspace .entry)) r (now (planes .exit)) (now (workspace .exit)) ⌝ }
 {
     if 4 < family {
-        return reply_of(Answer::Refused(1, Place::Nothing));
+        return reply_of(Answer::Refused(1, Place::Nothing)); // no such family
     }
     if 1 < interlaced {
-        return reply_of(Answer::Refused(1, Place::Nothing));
+        return reply_of(Answer::Refused(1, Place::Nothing)); // neither interlaced nor not
     }
     let g = geometry(
         width,
@@ -133,8 +133,8 @@ pub extern "C" fn magicyuv_decode8(
         depth,
         interlaced,
     );
-    let a = decode::decode8(frame, g, lengths, planes, workspace);
-    reply_of(a)
+    let decoded = decode::decode8(frame, g, lengths, planes, workspace);
+    reply_of(decoded)
 }
 
 // A table built by itself.
@@ -142,8 +142,8 @@ pub extern "C" fn magicyuv_decode8(
 pub extern "C" fn magicyuv_build(lengths: &[u8], workspace: &mut [u32]) -> Reply
     ensures { λ r. ⌜ BuiltFor (now (lengths .entry)) (now (workspace .entry)) r (now (workspace .exit)) ⌝ }
 {
-    let a = table::build(lengths, workspace);
-    reply_of(a)
+    let built = table::build(lengths, workspace);
+    reply_of(built)
 }
 
 // A reading by itself.
@@ -156,6 +156,6 @@ pub extern "C" fn magicyuv_read(
 ) -> Reply
     ensures { λ r. ⌜ ReadFor (now (lengths .entry)) (now (payload .entry)) (now (workspace .entry)) (now (samples .entry)) r (now (workspace .exit)) (now (samples .exit)) ⌝ }
 {
-    let a = table::read(lengths, payload, workspace, samples);
-    reply_of(a)
+    let read = table::read(lengths, payload, workspace, samples);
+    reply_of(read)
 }

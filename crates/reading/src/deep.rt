@@ -88,10 +88,10 @@ pub fn slice_u16(
     let to = layout::slice_end(frame, g, t, s);
     let kind = frame[from + 1];
     if kind < 1 {
-        return Answer::Refused(15, Place::Slice(s));
+        return Answer::Refused(15, Place::Slice(s)); // below Left
     }
     if 3 < kind {
-        return Answer::Refused(15, Place::Slice(s));
+        return Answer::Refused(15, Place::Slice(s)); // above Median
     }
     let depth = g.depth;
     let n = figures::symbol_count(depth);

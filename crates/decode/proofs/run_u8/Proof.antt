@@ -26,7 +26,11 @@ enum-told-2 : tie.Need-enum-told-2
 enum-told-2 c = search needs
 
 add-green-u8-requires : tie.Need-add-green-u8-requires
-add-green-u8-requires c κs = (c .before .before .before .before .before .before .before .before .before .before .before .before .before .before .before .before .before .before .before .pre .0, (run-long _ _ _ _ (c .before .enum-told2 .given .1) (c .before .before .before .before .before .read-slices-u8 .ensures .1), c .before .before .before .before .before .before .before .before .before .before .before .before .before .before .before .before .before .before .before .pre .1 .1 .1))
+add-green-u8-requires c κs =
+    let told = c .before in
+    let read = told .before .before .before .before in
+    let entry = read .before .before .before .before .before .before .before .before .before .before .before .before .before .before in
+    (entry .pre .0, (run-long _ _ _ _ (told .enum-told2 .given .1) (read .read-slices-u8 .ensures .1), entry .pre .1 .1 .1))
 
 returns : tie.Need-returns
 returns c = (search rest-refused, λ e. search no-list)

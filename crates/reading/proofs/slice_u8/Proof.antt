@@ -59,13 +59,36 @@ same-length : tie.Need-same-length
 same-length c = search needs
 
 returns-3 : tie.Need-returns-3
-returns-3 c = (slice-done _ _ _ _ _ _ _ (c .before .before .before .before .before .before .before .before .before .before .before .before .before .before .before .before .before .before .before .before .before .before .pre .0) _ _ (c .before .before .before .before .before .before .before .before .before .before .before .before .before .before .before .before .before .slice-start .ensures .0) (c .before .before .before .before .before .before .before .before .before .before .before .before .before .before .before .before .slice-end .ensures) _ refl _ _ (c .before .before .before .before .before .before .before .before .before .before .before .before .before .before .before .before .before .before .before .before .before .before .pre .1 .1) (c .before .before .before .before .before .before .before .before .before .before .before .before .symbol-count .ensures .0) (c .before .before .before .before .before .before .before .before .before .before .before .before .before .before .if1 .left) (c .before .before .before .before .before .before .before .before .before .before .before .before .before .if2 .left) _ _ (c .before .before .before .before .before .before .before .before .before .residues-u8 .ensures) (c .before .before .before .before .before .before .if3 .taken), λ e. slice-samples _ _ _ _ _ _ _ (c .before .before .before .before .before .before .before .before .before .before .before .before .before .before .before .before .before .before .before .before .before .before .pre .0) _ _ (c .before .before .before .before .before .before .before .before .before .before .before .before .before .before .before .before .before .slice-start .ensures .0) (c .before .before .before .before .before .before .before .before .before .before .before .before .before .before .before .before .slice-end .ensures) _ refl _ _ (c .before .before .before .before .before .before .before .before .before .before .before .before .before .before .before .before .before .before .before .before .before .before .pre .1 .1) (c .before .before .before .before .before .before .before .before .before .before .before .before .symbol-count .ensures .0) (c .before .before .before .before .before .before .before .before .before .before .before .before .before .before .if1 .left) (c .before .before .before .before .before .before .before .before .before .before .before .before .before .if2 .left) _ _ (c .before .before .before .before .before .before .before .before .before .residues-u8 .ensures) _ _ _ (c .before .before .before .before .before .before .if3 .taken) (c .before .before .before .before .before .plane-width .ensures .0) (c .before .before .before .before .fields-of .ensures .0) (c .before .before .rebuild-u8 .ensures))
+returns-3 c =
+    let rebuilt = c .before .before in
+    let fielded = rebuilt .before .before in
+    let wide = fielded .before in
+    let tested = wide .before in
+    let read = tested .before .before .before in
+    let counted = read .before .before .before in
+    let not-above = counted .before in
+    let not-below = not-above .before in
+    let ended = not-below .before .before in
+    let started = ended .before in
+    let entry = started .before .before .before .before .before in (
+      slice-done _ _ _ _ _ _ _ (entry .pre .0) _ _ (started .slice-start .ensures .0) (ended .slice-end .ensures) _ refl _ _ (entry .pre .1 .1) (counted .symbol-count .ensures .0) (not-below .if1 .left) (not-above .if2 .left) _ _ (read .residues-u8 .ensures) (tested .if3 .taken),
+      λ e. slice-samples _ _ _ _ _ _ _ (entry .pre .0) _ _ (started .slice-start .ensures .0) (ended .slice-end .ensures) _ refl _ _ (entry .pre .1 .1) (counted .symbol-count .ensures .0) (not-below .if1 .left) (not-above .if2 .left) _ _ (read .residues-u8 .ensures) _ _ _ (tested .if3 .taken) (wide .plane-width .ensures .0) (fielded .fields-of .ensures .0) (rebuilt .rebuild-u8 .ensures),
+    )
 
 same-length-2 : tie.Need-same-length-2
 same-length-2 c = search needs
 
 returns-4 : tie.Need-returns-4
-returns-4 c = (slice-stuck _ _ _ _ _ _ _ (c .before .before .before .before .before .before .before .before .before .before .before .before .before .before .before .before .pre .0) _ _ (c .before .before .before .before .before .before .before .before .before .before .before .slice-start .ensures .0) (c .before .before .before .before .before .before .before .before .before .before .slice-end .ensures) _ refl _ _ (c .before .before .before .before .before .before .before .before .before .before .before .before .before .before .before .before .pre .1 .1) (c .before .before .before .before .before .before .symbol-count .ensures .0) (c .before .before .before .before .before .before .before .before .if1 .left) (c .before .before .before .before .before .before .before .if2 .left) _ _ (c .before .before .before .residues-u8 .ensures) (c .if3 .left), λ e. search not-done)
+returns-4 c =
+    let tested = c in
+    let read = tested .before .before .before in
+    let counted = read .before .before .before in
+    let not-above = counted .before in
+    let not-below = not-above .before in
+    let ended = not-below .before .before in
+    let started = ended .before in
+    let entry = started .before .before .before .before .before in
+    (slice-stuck _ _ _ _ _ _ _ (entry .pre .0) _ _ (started .slice-start .ensures .0) (ended .slice-end .ensures) _ refl _ _ (entry .pre .1 .1) (counted .symbol-count .ensures .0) (not-below .if1 .left) (not-above .if2 .left) _ _ (read .residues-u8 .ensures) (tested .if3 .left), λ e. search not-done)
 
 pub slice-u8-spec : {M : Type 1} → statement M
 slice-u8-spec =

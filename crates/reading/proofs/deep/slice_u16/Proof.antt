@@ -59,13 +59,36 @@ same-length : tie.Need-same-length
 same-length c = search needs
 
 returns-3 : tie.Need-returns-3
-returns-3 c = (slice-done _ _ _ _ _ _ _ (c .before .before .before .before .before .before .before .before .before .before .before .before .before .before .before .before .before .before .before .before .before .before .pre .0) _ _ (c .before .before .before .before .before .before .before .before .before .before .before .before .before .before .before .before .before .slice-start .ensures .0) (c .before .before .before .before .before .before .before .before .before .before .before .before .before .before .before .before .slice-end .ensures) _ refl _ _ refl (c .before .before .before .before .before .before .before .before .before .before .before .before .symbol-count .ensures .0) (c .before .before .before .before .before .before .before .before .before .before .before .before .before .before .if1 .left) (c .before .before .before .before .before .before .before .before .before .before .before .before .before .if2 .left) _ _ (c .before .before .before .before .before .before .before .before .before .residues-u16 .ensures) (c .before .before .before .before .before .before .if3 .taken), λ e. slice-samples _ _ _ _ _ _ _ (c .before .before .before .before .before .before .before .before .before .before .before .before .before .before .before .before .before .before .before .before .before .before .pre .0) _ _ (c .before .before .before .before .before .before .before .before .before .before .before .before .before .before .before .before .before .slice-start .ensures .0) (c .before .before .before .before .before .before .before .before .before .before .before .before .before .before .before .before .slice-end .ensures) _ refl _ _ refl (c .before .before .before .before .before .before .before .before .before .before .before .before .symbol-count .ensures .0) (c .before .before .before .before .before .before .before .before .before .before .before .before .before .before .if1 .left) (c .before .before .before .before .before .before .before .before .before .before .before .before .before .if2 .left) _ _ (c .before .before .before .before .before .before .before .before .before .residues-u16 .ensures) _ _ _ (c .before .before .before .before .before .before .if3 .taken) (c .before .before .before .before .before .plane-width .ensures .0) (c .before .before .before .before .fields-of .ensures .0) (c .before .before .rebuild-u16 .ensures))
+returns-3 c =
+    let rebuilt = c .before .before in
+    let fielded = rebuilt .before .before in
+    let wide = fielded .before in
+    let tested = wide .before in
+    let read = tested .before .before .before in
+    let counted = read .before .before .before in
+    let not-above = counted .before in
+    let not-below = not-above .before in
+    let ended = not-below .before .before in
+    let started = ended .before in
+    let entry = started .before .before .before .before .before in (
+      slice-done _ _ _ _ _ _ _ (entry .pre .0) _ _ (started .slice-start .ensures .0) (ended .slice-end .ensures) _ refl _ _ refl (counted .symbol-count .ensures .0) (not-below .if1 .left) (not-above .if2 .left) _ _ (read .residues-u16 .ensures) (tested .if3 .taken),
+      λ e. slice-samples _ _ _ _ _ _ _ (entry .pre .0) _ _ (started .slice-start .ensures .0) (ended .slice-end .ensures) _ refl _ _ refl (counted .symbol-count .ensures .0) (not-below .if1 .left) (not-above .if2 .left) _ _ (read .residues-u16 .ensures) _ _ _ (tested .if3 .taken) (wide .plane-width .ensures .0) (fielded .fields-of .ensures .0) (rebuilt .rebuild-u16 .ensures),
+    )
 
 same-length-2 : tie.Need-same-length-2
 same-length-2 c = search needs
 
 returns-4 : tie.Need-returns-4
-returns-4 c = (slice-stuck _ _ _ _ _ _ _ (c .before .before .before .before .before .before .before .before .before .before .before .before .before .before .before .before .pre .0) _ _ (c .before .before .before .before .before .before .before .before .before .before .before .slice-start .ensures .0) (c .before .before .before .before .before .before .before .before .before .before .slice-end .ensures) _ refl _ _ refl (c .before .before .before .before .before .before .symbol-count .ensures .0) (c .before .before .before .before .before .before .before .before .if1 .left) (c .before .before .before .before .before .before .before .if2 .left) _ _ (c .before .before .before .residues-u16 .ensures) (c .if3 .left), λ e. search not-done)
+returns-4 c =
+    let tested = c in
+    let read = tested .before .before .before in
+    let counted = read .before .before .before in
+    let not-above = counted .before in
+    let not-below = not-above .before in
+    let ended = not-below .before .before in
+    let started = ended .before in
+    let entry = started .before .before .before .before .before in
+    (slice-stuck _ _ _ _ _ _ _ (entry .pre .0) _ _ (started .slice-start .ensures .0) (ended .slice-end .ensures) _ refl _ _ refl (counted .symbol-count .ensures .0) (not-below .if1 .left) (not-above .if2 .left) _ _ (read .residues-u16 .ensures) (tested .if3 .left), λ e. search not-done)
 
 pub slice-u16-spec : {M : Type 1} → statement M
 slice-u16-spec =

@@ -1,3 +1,4 @@
 pub mod Filling
 pub mod Entry
 pub mod Once
+pub mod Demand

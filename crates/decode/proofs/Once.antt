@@ -7,8 +7,8 @@ use denote.Triple.Clauses.{AtExit}
 use denote.Ref.{now}
 use Rattle.decode.proofs.decode8 as decode8
 use Rattle.decode.proofs.decode8.Reads as decode8-reads
-use Rattle.decode.proofs.decode16 as decode16
-use Rattle.decode.proofs.decode16.Reads as decode16-reads
+use Rattle.decode.proofs.deep.decode16 as decode16
+use Rattle.decode.proofs.deep.decode16.Reads as decode16-reads
 
 pub decode8-once : (κs : Lfts 4) (a : ArgsD decode8.signature κs) (r₁ r₂ : ResD decode8.signature κs) (s₁ s₂ : AtExit decode8.ended κs)
     → decode8-reads.Post κs a r₁ s₁ → decode8-reads.Post κs a r₂ s₂

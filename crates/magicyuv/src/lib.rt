@@ -1,6 +1,10 @@
 // The host's boundary: the product's functions as extern "C", on numbers and slices. An enum cannot cross it, so a Reply of three
 // numbers stands in for the answer; each function is proved to reply just the answer's number and place.
+// deep.rt has the entry for depths 10, 12 and 14.
 
+mod deep;
+
+pub use deep::magicyuv_decode16;
 use scope::Answer;
 use scope::Family;
 use scope::Geometry;
@@ -114,10 +118,10 @@ pub extern "C" fn magicyuv_decode8(
     ensures { λ r. ⌜ Hosted false (now (frame .entry)) (numbers width height «slice_height» family sx sy depth interlaced) (now (lengths .entry)) (now (planes .entry)) (now (workspace .entry)) r (now (planes .exit)) (now (workspace .exit)) ⌝ }
 {
     if 4 < family {
-        return reply_of(Answer::Refused(1, Place::Nothing));
+        return reply_of(Answer::Refused(1, Place::Nothing)); // no such family
     }
     if 1 < interlaced {
-        return reply_of(Answer::Refused(1, Place::Nothing));
+        return reply_of(Answer::Refused(1, Place::Nothing)); // neither interlaced nor not
     }
     let g = geometry(
         width,
@@ -129,46 +133,8 @@ pub extern "C" fn magicyuv_decode8(
         depth,
         interlaced,
     );
-    let a = decode::decode8(frame, g, lengths, planes, workspace);
-    reply_of(a)
-}
-
-// Document 01's entry for depths 10, 12 and 14.
-#[no_mangle]
-pub extern "C" fn magicyuv_decode16(
-    frame: &[u8],
-    lengths: &[u8],
-    planes: &mut [u16],
-    workspace: &mut [u32],
-    width: u32,
-    height: u32,
-    slice_height: u32,
-    family: u32,
-    sx: u32,
-    sy: u32,
-    depth: u32,
-    interlaced: u32,
-) -> Reply
-    ensures { λ r. ⌜ Hosted true (now (frame .entry)) (numbers width height «slice_height» family sx sy depth interlaced) (now (lengths .entry)) (now (planes .entry)) (now (workspace .entry)) r (now (planes .exit)) (now (workspace .exit)) ⌝ }
-{
-    if 4 < family {
-        return reply_of(Answer::Refused(1, Place::Nothing));
-    }
-    if 1 < interlaced {
-        return reply_of(Answer::Refused(1, Place::Nothing));
-    }
-    let g = geometry(
-        width,
-        height,
-        slice_height,
-        family,
-        sx,
-        sy,
-        depth,
-        interlaced,
-    );
-    let a = decode::decode16(frame, g, lengths, planes, workspace);
-    reply_of(a)
+    let decoded = decode::decode8(frame, g, lengths, planes, workspace);
+    reply_of(decoded)
 }
 
 // A table built by itself.
@@ -176,8 +142,8 @@ pub extern "C" fn magicyuv_decode16(
 pub extern "C" fn magicyuv_build(lengths: &[u8], workspace: &mut [u32]) -> Reply
     ensures { λ r. ⌜ BuiltFor (now (lengths .entry)) (now (workspace .entry)) r (now (workspace .exit)) ⌝ }
 {
-    let a = table::build(lengths, workspace);
-    reply_of(a)
+    let built = table::build(lengths, workspace);
+    reply_of(built)
 }
 
 // A reading by itself.
@@ -190,6 +156,6 @@ pub extern "C" fn magicyuv_read(
 ) -> Reply
     ensures { λ r. ⌜ ReadFor (now (lengths .entry)) (now (payload .entry)) (now (workspace .entry)) (now (samples .entry)) r (now (workspace .exit)) (now (samples .exit)) ⌝ }
 {
-    let a = table::read(lengths, payload, workspace, samples);
-    reply_of(a)
+    let read = table::read(lengths, payload, workspace, samples);
+    reply_of(read)
 }

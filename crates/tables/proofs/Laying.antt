@@ -1,7 +1,7 @@
 -- The tables of a frame's planes as they are laid, one after another, and the codes that say where each stands.
 use mathlib.Core.Path.{_≡_, refl, sym, ap, _∙_}
 use mathlib.Core.Bool.{Bool, true, false}
-use mathlib.Core.List.{List, [], _∷_}
+use mathlib.Core.List.{List, [], _∷_, _++_, append-assoc}
 use Prim.Native.Nat.{ℕ, zero, suc, _+_, _-_, _*_, _^_, _≤_, _<_}
 use native.Mathlib.Decide.{ℕ-discrete}
 use native.Mathlib.Nat.{mul-le-mul-right, suc-mul}
@@ -12,8 +12,8 @@ use mir.Syntax.{w64}
 use mir.Val.{Fits}
 use borrow.Author.Tests.{ltb-false, le-ltb}
 use lib.Dec.{ltb}
-use lib.ListN.{length, getD, set, take, drop, length-take, length-drop, length-set}
-use lib.Seq.{getD-set-same, getD-set-other}
+use lib.ListN.{length, getD, set, take, drop, length-take, length-drop, length-set, length-append}
+use lib.Seq.{getD-set-same, getD-set-other, take-at, drop-at, drop-drop}
 use Rattle.scope.specs.Base as base
 use Rattle.scope.specs.Base.{part, replaced, sumBelow}
 use Rattle.scope.specs.Refusals.{refuseIf, _andThen_, inOrder}
@@ -38,7 +38,7 @@ use Rattle.figures.proofs.Places.{planes-most}
 use Rattle.figures.proofs.Figures.{product-most}
 use Rattle.refusals.proofs.InOrder.{each-passed}
 use Rattle.planes.proofs.Laid.{Laid, laid-start, laid-end, laid-room, laid-step}
-use Rattle.tables.specs.Tables.{planeNeed, tableStart, Tables, Coded}
+use Rattle.tables.specs.Tables.{planeNeed, tableStart, tablesUpTo, withTables, Tables, Coded}
 use Rattle.tables.specs.declared.Codes.{Codes}
 
 -- ---- the need, from what the weighing says
@@ -236,3 +236,39 @@ pub ruleset lays = (laying-start, laying-tables, laying-codes, laying-plane, lay
 -- the loop keeps the workspace's length
 pub needs-still : (g : Geometry) (lengths ws ws₀ : List ℕ) → length ws ≡ length ws₀ → needOfAll g lengths ≤ length ws₀ → needOfAll g lengths ≤ length ws
 needs-still g lengths ws ws₀ e h = omega (arith, e, h)
+
+-- ---- the words behind the tables
+
+-- one list more in front of what is left of another
+lay-more : (xs ts ys : List ℕ) (at n : ℕ) → length xs ≡ at → replaced (xs ++ drop at ys) at n ts ≡ xs ++ ts ++ drop (at + n) ys
+lay-more xs ts ys at n e = rw (take-at xs (drop at ys) at e, drop-at xs (drop at ys) at e, drop-drop n at ys) (sym (append-assoc xs ts (drop (at + n) ys)))
+
+-- before plane i: the tables of the planes below it, and behind them the workspace as it was found
+pub record Behind (g : Geometry) (lengths ws₀ ws : List ℕ) (at i : ℕ) : Type 0 where
+  pub holds : ws ≡ tablesUpTo g lengths i ++ drop at ws₀
+  pub long : length (tablesUpTo g lengths i) ≡ at
+
+pub behind-start : (g : Geometry) (lengths ws : List ℕ) → Behind g lengths ws ws 0 0
+unfolding tablesUpTo
+behind-start g lengths ws = record { holds = refl; long = refl }
+
+module _ (g : Geometry) (lengths ws₀ ws : List ℕ) (at i : ℕ) (w : Behind g lengths ws₀ ws at i) where
+  behind-more : Behind g lengths ws₀ (replaced ws at (need (lengthsOf g lengths i)) (tableOf (lengthsOf g lengths i))) (at + need (lengthsOf g lengths i)) (suc i)
+  unfolding tablesUpTo
+  behind-more =
+      record {
+        holds = ap (λ (l : List ℕ). replaced l at (need (lengthsOf g lengths i)) (tableOf (lengthsOf g lengths i))) (w .holds)
+            ∙ lay-more (tablesUpTo g lengths i) (tableOf (lengthsOf g lengths i)) ws₀ at (need (lengthsOf g lengths i)) (w .long);
+        long = omega (arith, length-append (tablesUpTo g lengths i) (tableOf (lengthsOf g lengths i)), w .long, table-length (lengthsOf g lengths i));
+      }
+
+  pub behind-step : (ws′ : List ℕ) (to : ℕ) → ws′ ≡ replaced ws at (need (lengthsOf g lengths i)) (tableOf (lengthsOf g lengths i)) → to ≡ at + need (lengthsOf g lengths i) → Behind g lengths ws₀ ws′ to (i + 1)
+  behind-step ws′ to ew et = rw (add-one, ew, et) behind-more
+
+  -- all of them
+  pub behind-all : (c : Codes) (planes : ℕ) → Laying g lengths ws c planes at i → planes ≤ i → ws ≡ withTables g lengths ws₀
+  unfolding withTables frm.needOfAll
+  behind-all c planes y h =
+      let e : i ≡ planeCount g = omega (arith, y .within, y .planes-are) in
+      let f : at ≡ needOfAll g lengths = y .laid .at-is ∙ ap (λ (k : ℕ). sumBelow k (planeNeed g lengths)) e in
+      w .holds ∙ ap (λ (k : ℕ). tablesUpTo g lengths k ++ drop at ws₀) e ∙ ap (λ (k : ℕ). tablesUpTo g lengths (planeCount g) ++ drop k ws₀) f

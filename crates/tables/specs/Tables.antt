@@ -1,8 +1,8 @@
 -- Where the tables of a frame's planes stand in the workspace: one after another, in wire order. Assumes nothing.
 use mathlib.Core.Path.{_≡_}
-use mathlib.Core.List.{List, [], _∷_}
-use Prim.Native.Nat.{ℕ, suc, _≤_, _<_}
-use lib.ListN.{length, getD}
+use mathlib.Core.List.{List, [], _∷_, _++_}
+use Prim.Native.Nat.{ℕ, zero, suc, _≤_, _<_}
+use lib.ListN.{length, getD, drop}
 use Rattle.scope.specs.Base.{part, sumBelow}
 use Rattle.scope.specs.Geometry.{planeCount, lengthsOf}
 use Rattle.scope.specs.Words.{longest, need}
@@ -23,6 +23,15 @@ module _ (g : Geometry) (lengths : List ℕ) where
   -- where plane p's table starts: after those of the planes before it
   unfoldable pub tableStart : ℕ → ℕ
   tableStart p = sumBelow p planeNeed
+
+  -- the tables of the planes below n, one after another
+  unfoldable pub tablesUpTo : ℕ → List ℕ
+  tablesUpTo zero = []
+  tablesUpTo (suc p) = tablesUpTo p ++ tableOf (lengthsOf g lengths p)
+
+  -- what building them all leaves in the workspace: the tables from its front on, and behind them the words as found
+  unfoldable pub withTables : List ℕ → List ℕ
+  withTables workspace = tablesUpTo (planeCount g) ++ drop (needOfAll g lengths) workspace
 
   -- each plane's table stands in its stretch of the workspace
   pub record Tables (workspace : List ℕ) : Type 0 where

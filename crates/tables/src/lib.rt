@@ -12,7 +12,7 @@ ghost use Rattle.scope.specs.Lookup.{tableOf};
 ghost use Rattle.scope.specs.Frame.{lengthCheck, needOfAll};
 ghost use Rattle.scope.specs.declared.Answer.the-variants.{Done};
 ghost use Rattle.figures.specs.Sound.{Sound};
-ghost use Rattle.tables.specs.Tables.{zero4, Tables, Coded};
+ghost use Rattle.tables.specs.Tables.{zero4, Tables, Coded, withTables};
 
 // Where each plane's table starts and ends in the workspace, and the plane's longest length; 0 for the planes that a family lacks.
 pub struct Codes {
@@ -89,7 +89,7 @@ fn build_plane(g: Geometry, lengths: &[u8], workspace: &mut [u32], p: usize, at:
     build_at(&lengths[a..a + n], workspace, at)
 }
 
-// All planes' tables, one after another from the front of the workspace.
+// All planes' tables, one after another from the front of the workspace; the words behind them stay as found.
 pub fn build_all(g: Geometry, lengths: &[u8], workspace: &mut [u32]) -> Codes
     requires { ⌜ Sound g ⌝ }
     requires { ⌜ length (now lengths) ≡ planeCount g * 2 ^ g .depth ⌝ }
@@ -97,6 +97,7 @@ pub fn build_all(g: Geometry, lengths: &[u8], workspace: &mut [u32]) -> Codes
     requires { ⌜ needOfAll g (now lengths) ≤ length (now workspace) ⌝ }
     ensures tables { λ _. ⌜ Tables g (now (lengths .entry)) (now (workspace .exit)) ⌝ }
     ensures codes { λ r. ⌜ Coded g (now (lengths .entry)) r (planeCount g) ⌝ }
+    ensures workspace { λ _. ⌜ now (workspace .exit) ≡ withTables g (now (lengths .entry)) (now (workspace .entry)) ⌝ }
 {
     let f = g.family;
     let planes = figures::plane_count(f);

@@ -1,77 +1,54 @@
 use Rattle.refusals.proofs.Outcomes.{out-early, out-late, out-done}
 use Rattle.decode.proofs.Entry.{lent-sound, lent-lengths, lent-planes, lent-8}
-use native.Mathlib.Omega.{arith}
 use borrow.Author.Needs.{needs}
 use Rattle.decode.proofs.decode8.Statement.{statement}
 use Rattle.decode.proofs.decode8.Tie as tie
-use Rattle.decode.proofs.decode8.Reads as reads
-use Rattle.decode.proofs.decode8.Lts as lts
-use Rattle.decode.proofs.run_u8.Reads as run-u8-reads
-use Rattle.lent.proofs.lent_checks.Reads as lent-checks-reads
-use Rattle.memory.proofs.clear_u32.Reads as clear-u32-reads
-use Rattle.memory.proofs.clear_u8.Reads as clear-u8-reads
 
--- src/lib.rt:125:9
 lent-checks-requires : tie.Need-lent-checks-requires
 lent-checks-requires c κs = search needs
 
--- src/lib.rt:127:25
 enum-known-a : tie.Need-enum-known-a
 enum-known-a c = search needs
 
--- src/lib.rt:129:47
 enum-told : tie.Need-enum-told
 enum-told c = search needs
 
--- src/lib.rt:129:17
 run-u8-requires : tie.Need-run-u8-requires
 run-u8-requires c κs = (search lent-sound, (search lent-lengths, (search lent-planes, search lent-8)))
 
--- src/lib.rt:131:33
 enum-known-r : tie.Need-enum-known-r
 enum-known-r c = search needs
 
--- src/lib.rt:132:21
 clear-u8-requires : tie.Need-clear-u8-requires
 clear-u8-requires c κs = search needs
 
--- src/lib.rt:133:21
 clear-u32-requires : tie.Need-clear-u32-requires
 clear-u32-requires c κs = search needs
 
--- src/lib.rt:137:39
 enum-told-2 : tie.Need-enum-told-2
 enum-told-2 c = search needs
 
--- src/lib.rt:137:21
 clear-u32-requires-2 : tie.Need-clear-u32-requires-2
 clear-u32-requires-2 c κs = search needs
 
--- src/lib.rt:116:1
 returns : tie.Need-returns
 returns c = search out-early
 
--- src/lib.rt:116:1
 same-length : tie.Need-same-length
 same-length c = search needs
 
--- src/lib.rt:116:1
 same-length-2 : tie.Need-same-length-2
 same-length-2 c = search needs
 
--- src/lib.rt:116:1
 returns-2 : tie.Need-returns-2
 returns-2 c = search out-late
 
--- src/lib.rt:116:1
 same-length-3 : tie.Need-same-length-3
 same-length-3 c = search needs
 
--- src/lib.rt:116:1
 same-length-4 : tie.Need-same-length-4
 same-length-4 c = search needs
 
--- src/lib.rt:116:1
 returns-3 : tie.Need-returns-3
 returns-3 c = search out-done
 

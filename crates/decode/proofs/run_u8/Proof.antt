@@ -1,73 +1,55 @@
 use Rattle.decode.proofs.Entry.{rest-refused, rest-checked, rest-words, rest-room, rest-read, rest-done, run-picture, run-long}
 use Rattle.decode.proofs.Filling.{no-list}
-use native.Mathlib.Omega.{arith}
 use borrow.Author.Needs.{needs}
 use Rattle.decode.proofs.run_u8.Statement.{statement}
 use Rattle.decode.proofs.run_u8.Tie as tie
-use Rattle.decode.proofs.run_u8.Reads as reads
-use Rattle.decode.proofs.run_u8.Lts as lts
-use Rattle.decode.proofs.read_slices_u8.Reads as read-slices-u8-reads
-use Rattle.frame.proofs.check_frame.Reads as check-frame-reads
-use Rattle.planes.proofs.add_green_u8.Reads as add-green-u8-reads
-use Rattle.tables.proofs.build_all.Reads as build-all-reads
 
--- src/lib.rt:97:9
 check-frame-requires : tie.Need-check-frame-requires
 check-frame-requires c κs = search needs
 
--- src/lib.rt:99:25
 enum-known-a : tie.Need-enum-known-a
 enum-known-a c = search needs
 
--- src/lib.rt:101:55
 enum-told : tie.Need-enum-told
 enum-told c = search needs
 
--- src/lib.rt:101:17
 build-all-requires : tie.Need-build-all-requires
 build-all-requires c κs = (search needs, (search needs, (search rest-words, search rest-room)))
 
--- src/lib.rt:102:17
 read-slices-u8-requires : tie.Need-read-slices-u8-requires
 read-slices-u8-requires c κs = (search rest-checked, (search needs, (search needs, (search needs, search needs))))
 
--- src/lib.rt:104:33
 enum-known-b : tie.Need-enum-known-b
 enum-known-b c = search needs
 
--- src/lib.rt:106:45
 enum-told-2 : tie.Need-enum-told-2
 enum-told-2 c = search needs
 
--- src/lib.rt:106:21
 add-green-u8-requires : tie.Need-add-green-u8-requires
-add-green-u8-requires c κs = (c .before .before .before .before .before .before .before .before .before .before .before .before .before .before .before .before .before .before .before .pre .0, (run-long _ _ _ _ (c .before .enum-told2 .given .1) (c .before .before .before .before .before .read-slices-u8 .ensures .1), c .before .before .before .before .before .before .before .before .before .before .before .before .before .before .before .before .before .before .before .pre .1 .1 .1))
+add-green-u8-requires c κs =
+    let told = c .before in
+    let read = told .before .before .before .before in
+    let entry = read .before .before .before .before .before .before .before .before .before .before .before .before .before .before in
+    (entry .pre .0, (run-long _ _ _ _ (told .enum-told2 .given .1) (read .read-slices-u8 .ensures .1), entry .pre .1 .1 .1))
 
--- src/lib.rt:84:1
 returns : tie.Need-returns
 returns c = (search rest-refused, λ e. search no-list)
 
--- src/lib.rt:84:1
 same-length : tie.Need-same-length
 same-length c = search needs
 
--- src/lib.rt:84:1
 same-length-2 : tie.Need-same-length-2
 same-length-2 c = search needs
 
--- src/lib.rt:84:1
 returns-2 : tie.Need-returns-2
 returns-2 c = (search rest-read, λ e. search no-list)
 
--- src/lib.rt:84:1
 same-length-3 : tie.Need-same-length-3
 same-length-3 c = search needs
 
--- src/lib.rt:84:1
 same-length-4 : tie.Need-same-length-4
 same-length-4 c = search needs
 
--- src/lib.rt:84:1
 returns-3 : tie.Need-returns-3
 returns-3 c = (search rest-done, λ e. search run-picture)
 

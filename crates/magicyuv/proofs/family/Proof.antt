@@ -1,28 +1,19 @@
 use Rattle.magicyuv.proofs.Replies.{families}
-use native.Mathlib.Omega.{arith}
-use borrow.Author.Needs.{needs}
 use Rattle.magicyuv.proofs.family.Statement.{statement}
 use Rattle.magicyuv.proofs.family.Tie as tie
-use Rattle.magicyuv.proofs.family.Reads as reads
-use Rattle.magicyuv.proofs.family.Lts as lts
 
--- src/lib.rt:58:9
 returns : tie.Need-returns
 returns c = search families
 
--- src/lib.rt:61:9
 returns-2 : tie.Need-returns-2
 returns-2 c = search families
 
--- src/lib.rt:64:9
 returns-3 : tie.Need-returns-3
 returns-3 c = search families
 
--- src/lib.rt:67:9
 returns-4 : tie.Need-returns-4
 returns-4 c = search families
 
--- src/lib.rt:54:1
 returns-5 : tie.Need-returns-5
 returns-5 c = search families
 

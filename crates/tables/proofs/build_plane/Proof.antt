@@ -1,46 +1,32 @@
 use Rattle.tables.proofs.Laying.{lends, lent-few, part-short, part-full, part-need, part-table, part-to, part-longest}
-use native.Mathlib.Omega.{arith}
 use borrow.Author.Needs.{needs}
 use Rattle.tables.proofs.build_plane.Statement.{statement}
 use Rattle.tables.proofs.build_plane.Tie as tie
-use Rattle.tables.proofs.build_plane.Reads as reads
-use Rattle.tables.proofs.build_plane.Lts as lts
-use Rattle.figures.proofs.symbol_count.Reads as symbol-count-reads
-use Rattle.tables.proofs.build_at.Reads as build-at-reads
 
--- src/lib.rt:96:9
 symbol-count-requires : tie.Need-symbol-count-requires
 symbol-count-requires c κs = search needs
 
--- src/lib.rt:97:13
 mul-a : tie.Need-mul-a
 mul-a c = search lends
 
--- src/lib.rt:98:26
 add-build-at : tie.Need-add-build-at
 add-build-at c = search lends
 
--- src/lib.rt:98:14
 sub-build-at : tie.Need-sub-build-at
 sub-build-at c = search needs
 
--- src/lib.rt:98:14
 part-build-at-start : tie.Need-part-build-at-start
 part-build-at-start c = search needs
 
--- src/lib.rt:98:14
 part-build-at-end : tie.Need-part-build-at-end
 part-build-at-end c = search lends
 
--- src/lib.rt:98:5
 build-at-requires : tie.Need-build-at-requires
 build-at-requires c κs = ((search lent-few, search part-short, search part-full), search part-need)
 
--- src/lib.rt:82:1
 same-length : tie.Need-same-length
 same-length c = search needs
 
--- src/lib.rt:82:1
 returns : tie.Need-returns
 returns c = (search part-table, (search part-to, search part-longest))
 

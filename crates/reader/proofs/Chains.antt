@@ -1,0 +1,99 @@
+-- What a reading says of the chain, and of a code's own words where its table is read; and how a reading goes on from where another one
+-- ended (document 01, "Words and lookup"). Assumes nothing.
+use mathlib.Core.Path.{_≡_, refl, sym, ap, _∙_}
+use Prim.Native.Nat.{ℕ, zero, suc, _+_, _*_, _^_, _≤_, _<_}
+use native.Mathlib.Nat.{zero-add, suc-add}
+use native.Mathlib.Omega.{arith}
+use mathlib.Core.List.{List, []}
+use lib.ListN.{length}
+use Rattle.scope.specs.Words.{longest, wordAt, Chain, symbols, stuckAt, _before_, onWord, chainBy, chain}
+use Rattle.scope.specs.Lookup.{lookupIn}
+use Rattle.scope.specs.declared.Found.{Found}
+use Rattle.scope.specs.declared.Found.the-variants.{Word, NoWord}
+use Rattle.laws.proofs.Words.{FoundIn, found-in}
+use Rattle.laws.proofs.Chains.{chain-same}
+use Rattle.reader.specs.Reading.{onward, positionAfter, reached, WordsRead, Readable}
+use Rattle.reader.specs.declared.Reached.the-variants.{End, Stuck}
+use Rattle.reader.proofs.Reading.{then}
+
+-- ---- what the two answers say
+
+no-end : (e q : ℕ) → End e ≡ Stuck q → ⊥
+no-end e q h =
+    let z : _≡_ {A = ℕ} 0 1 = cc in
+    omega arith
+
+module _ (look : ℕ → Found) (at n : ℕ) (out : List ℕ) where
+  -- an end: the chain's symbols are handed out
+  pub end-chain : (e : ℕ) → WordsRead look at n (End e) out → chainBy look at n ≡ symbols out
+  end-chain e r = go (chainBy look at n) refl (r .answer)
+    where
+      go : (c : Chain) → chainBy look at n ≡ c → End e ≡ reached (chainBy look at n) (positionAfter look at n) → chainBy look at n ≡ symbols out
+      go (symbols ss) f a = f ∙ ap symbols (sym (r .handed ss f))
+      go (stuckAt q) f a = absurd (no-end e q (a ∙ unfold reached in (ap (λ (c : Chain). reached c (positionAfter look at n)) f)))
+
+  -- and the reading goes on where it ended
+  pub end-position : (e : ℕ) → WordsRead look at n (End e) out → e ≡ positionAfter look at n
+  unfolding reached
+  end-position e r =
+      let f : End e ≡ End (positionAfter look at n) = r .answer ∙ ap (λ (c : Chain). reached c (positionAfter look at n)) (end-chain e r) in
+      cc
+
+  -- no word: the chain is stuck there
+  pub stuck-chain : (p : ℕ) → WordsRead look at n (Stuck p) out → chainBy look at n ≡ stuckAt p
+  stuck-chain p r = go (chainBy look at n) refl (r .answer)
+    where
+      go : (c : Chain) → chainBy look at n ≡ c → Stuck p ≡ reached (chainBy look at n) (positionAfter look at n) → chainBy look at n ≡ stuckAt p
+      go (symbols ss) f a =
+          absurd (no-end (positionAfter look at n) p (sym (a ∙ unfold reached in (ap (λ (c : Chain). reached c (positionAfter look at n)) f))))
+      go (stuckAt q) f a =
+          let g : Stuck p ≡ Stuck q = a ∙ unfold reached in (ap (λ (c : Chain). reached c (positionAfter look at n)) f) in
+          let h : p ≡ q = cc in
+          f ∙ ap stuckAt (sym h)
+
+-- ---- n words, and then k more
+
+-- one chain, and then another
+unfoldable pub joined : Chain → Chain → Chain
+joined (symbols ss) c = then ss c
+joined (stuckAt p) c = stuckAt p
+
+joined-before : (s : ℕ) (c d : Chain) → joined (s before c) d ≡ s before joined c d
+unfolding joined then _before_
+joined-before s (symbols ss) (symbols ts) = refl
+joined-before s (symbols ss) (stuckAt p) = refl
+joined-before s (stuckAt p) d = refl
+
+joined-none : (c : Chain) → joined (symbols []) c ≡ c
+unfolding joined then
+joined-none (symbols ss) = refl
+joined-none (stuckAt p) = refl
+
+-- the words that follow are read from where the first n ended
+pub chain-resumes : (look : ℕ → Found) (n at k : ℕ) → chainBy look at (n + k) ≡ joined (chainBy look at n) (chainBy look (positionAfter look at n) k)
+unfolding chainBy positionAfter
+chain-resumes look zero at k = ap (chainBy look at) (zero-add k) ∙ sym (joined-none (chainBy look at k))
+chain-resumes look (suc n) at k = ap (chainBy look at) (suc-add n k) ∙ go (chain-resumes look n) (look at)
+  where
+    go : ((p j : ℕ) → chainBy look p (n + j) ≡ joined (chainBy look p n) (chainBy look (positionAfter look p n) j)) → (o : Found)
+        → onWord o at (λ l s. s before chainBy look (at + l) (n + k))
+        ≡ joined (onWord o at (λ l s. s before chainBy look (at + l) n)) (chainBy look (onward o at (λ p. positionAfter look p n)) k)
+    go ih NoWord = unfold onWord joined in refl
+    go ih (Word l s) = unfold onWord onward in
+        (ap (λ (c : Chain). s before c) (ih (at + l) k) ∙ sym (joined-before s (chainBy look (at + l) n) (chainBy look (positionAfter look (at + l) n) k)))
+
+-- ---- a code's own words, read by its table
+
+module _ (ls words payload : List ℕ) (looks : (p : ℕ) → lookupIn words (longest ls) payload p ≡ wordAt ls payload p) where
+  -- the table's lookup meets what a reading asks, at an element that holds every symbol
+  pub code-readable : (limit at n : ℕ) → longest ls ≤ 18 → length ls ≤ limit → at + 18 * n < 2 ^ 64
+      → Readable (lookupIn words (longest ls) payload) limit at n
+  code-readable limit at n k b r = record {
+    symbol = λ p l s e. (let f : FoundIn ls l s = found-in ls payload p l s (sym (looks p) ∙ e) in omega (arith, f .symbol));
+    short = λ p l s e. (let f : FoundIn ls l s = found-in ls payload p l s (sym (looks p) ∙ e) in omega (arith, f .most));
+    near = r;
+  }
+
+  -- and reads the code's own chain
+  pub code-chain : (at n : ℕ) → chainBy (lookupIn words (longest ls) payload) at n ≡ chain ls payload at n
+  code-chain at n = chain-same (lookupIn words (longest ls) payload) (wordAt ls payload) looks n at

@@ -5,7 +5,7 @@ use Rattle.reading.proofs.coded_u16.Statement.{statement}
 use Rattle.reading.proofs.coded_u16.Tie as tie
 use Rattle.reading.proofs.coded_u16.Reads as reads
 use Rattle.reading.proofs.coded_u16.Lts as lts
-use Rattle.lookup.proofs.words_u16.Reads as words-u16-reads
+use Rattle.reader.proofs.words_u16.Reads as words-u16-reads
 
 -- src/lib.rt:127:29
 mul-words-u16 : tie.Need-mul-words-u16

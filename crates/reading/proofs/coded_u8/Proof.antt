@@ -5,7 +5,7 @@ use Rattle.reading.proofs.coded_u8.Statement.{statement}
 use Rattle.reading.proofs.coded_u8.Tie as tie
 use Rattle.reading.proofs.coded_u8.Reads as reads
 use Rattle.reading.proofs.coded_u8.Lts as lts
-use Rattle.lookup.proofs.words_u8.Reads as words-u8-reads
+use Rattle.reader.proofs.words_u8.Reads as words-u8-reads
 
 -- src/lib.rt:29:28
 mul-words-u8 : tie.Need-mul-words-u8

@@ -1,4 +1,2 @@
 pub mod Looking
-pub mod Reading
-pub mod Chains
 pub mod Once

@@ -1,18 +1,9 @@
-// Document 01, "Words and lookup": the lookup, "from these and m alone, without the lengths", and the readings that take every sample
-// from it.
+// Document 01, "Words and lookup": the lookup, "from these and m alone, without the lengths".
 use bits::peek;
 use scope::Found;
 ghost use mathlib.Core.Path.{_≡_};
-ghost use Prim.Native.Nat.{_<_, _≤_, _^_};
-ghost use lib.ListN.{length, getD};
+ghost use lib.ListN.{getD};
 ghost use Rattle.scope.specs.Lookup.{unpacked, lookupIn};
-ghost use Rattle.lookup.specs.Reading.{Readable, WordsRead};
-
-// Where a reading stands: at the end of its last word, or where no word fits the next bits.
-pub enum Reached {
-    End(usize),
-    Stuck(usize),
-}
 
 // The word at i, and 0 past the end.
 fn word(words: &[u32], i: usize) -> u32
@@ -55,48 +46,4 @@ pub fn lookup(words: &[u32], m: usize, payload: &[u8], at: usize) -> Found
         return unpack(word(words, 4096 + peek(payload, at, m) as usize));
     }
     unpack(e)
-}
-
-// As many words as `out` has places, one after the other from bit position `at` on: their symbols, and where the next word would begin.
-pub fn words_u16(table: &[u32], m: usize, payload: &[u8], at: usize, out: &mut [u16]) -> Reached
-    requires { ⌜ Readable (lookupIn (now table) m (now payload)) (2 ^ 16) at (length (now out)) ⌝ }
-    ensures { λ r. ⌜ WordsRead (lookupIn (now (table .entry)) m (now (payload .entry))) at (length (now (out .entry))) r (now (out .exit)) ⌝ }
-{
-    let mut p = at;
-    let mut k: usize = 0;
-    while k < out.len() {
-        match lookup(table, m, payload, p) {
-            Found::NoWord => {
-                return Reached::Stuck(p);
-            }
-            Found::Word { length, symbol } => {
-                out[k] = symbol as u16;
-                p = p + length;
-                k += 1;
-            }
-        }
-    }
-    Reached::End(p)
-}
-
-// The same into bytes.
-pub fn words_u8(table: &[u32], m: usize, payload: &[u8], at: usize, out: &mut [u8]) -> Reached
-    requires { ⌜ Readable (lookupIn (now table) m (now payload)) (2 ^ 8) at (length (now out)) ⌝ }
-    ensures { λ r. ⌜ WordsRead (lookupIn (now (table .entry)) m (now (payload .entry))) at (length (now (out .entry))) r (now (out .exit)) ⌝ }
-{
-    let mut q = at;
-    let mut j: usize = 0;
-    while j < out.len() {
-        match lookup(table, m, payload, q) {
-            Found::NoWord => {
-                return Reached::Stuck(q);
-            }
-            Found::Word { length, symbol } => {
-                out[j] = symbol as u8;
-                q = q + length;
-                j += 1;
-            }
-        }
-    }
-    Reached::End(q)
 }

@@ -11,10 +11,10 @@ use Rattle.scope.specs.Base.{part}
 use Rattle.scope.specs.Words.{longest, Chain, symbols, stuckAt, chainBy, chain, wordAt}
 use Rattle.scope.specs.Lookup.{tableOf, lookupIn}
 use Rattle.laws.proofs.Lookup.{looks-table}
-use Rattle.lookup.specs.Reading.{Readable, WordsRead}
-use Rattle.lookup.specs.declared.Reached.{Reached}
-use Rattle.lookup.specs.declared.Reached.the-variants.{End, Stuck}
-use Rattle.lookup.proofs.Chains.{end-chain, stuck-chain, code-readable, code-chain}
+use Rattle.reader.specs.Reading.{Readable, WordsRead}
+use Rattle.reader.specs.declared.Reached.{Reached}
+use Rattle.reader.specs.declared.Reached.the-variants.{End, Stuck}
+use Rattle.reader.proofs.Chains.{end-chain, stuck-chain, code-readable, code-chain}
 use Rattle.reading.specs.Slice.{Residues, TableAt}
 
 module _ (ls workspace : List ℕ) (a e m : ℕ) (t : TableAt ls workspace a e m) (payload : List ℕ) where

@@ -1,6 +1,6 @@
 // Document 01, "Layout" and "Words and lookup": one slice of depth 10, 12 or 14 read into its part of the planes, raw or coded, and its
 // samples rebuilt there. As lib.rt has it for depth 8, but that raw samples are packed at depth bits.
-use lookup::Reached;
+use reader::Reached;
 use scope::Answer;
 use scope::Geometry;
 use scope::Place;
@@ -32,7 +32,7 @@ fn coded_u16(
     requires { ⌜ (from ≤ to) × (to ≤ length (now frame)) ⌝ }
     ensures { λ r. ⌜ Residues (chain (now (lengths .entry)) (take (to - from) (drop from (now (frame .entry)))) 0 (length (now (out .entry)))) r (now (out .exit)) ⌝ }
 {
-    match lookup::words_u16(&workspace[a..e], m, &frame[from..to], 0, out) {
+    match reader::words_u16(&workspace[a..e], m, &frame[from..to], 0, out) {
         Reached::End(_) => true,
         Reached::Stuck(_) => false,
     }

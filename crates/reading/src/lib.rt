@@ -3,7 +3,7 @@
 mod deep;
 
 pub use deep::slice_u16;
-use lookup::Reached;
+use reader::Reached;
 use scope::Answer;
 use scope::Geometry;
 use scope::Place;
@@ -35,7 +35,7 @@ fn coded_u8(
     requires { ⌜ (from ≤ to) × (to ≤ length (now frame)) ⌝ }
     ensures { λ r. ⌜ Residues (chain (now (lengths .entry)) (take (to - from) (drop from (now (frame .entry)))) 0 (length (now (out .entry)))) r (now (out .exit)) ⌝ }
 {
-    match lookup::words_u8(&workspace[a..e], m, &frame[from..to], 0, out) {
+    match reader::words_u8(&workspace[a..e], m, &frame[from..to], 0, out) {
         Reached::End(_) => true,
         Reached::Stuck(_) => false,
     }

@@ -21,10 +21,10 @@ use Rattle.scope.specs.declared.Answer.{Answer}
 use Rattle.scope.specs.declared.Answer.the-variants.{Done, Refused}
 use Rattle.laws.proofs.Table.{table-length}
 use Rattle.laws.proofs.Lookup.{looks-take}
-use Rattle.lookup.specs.Reading.{WordsRead, Readable}
-use Rattle.lookup.specs.declared.Reached.{Reached}
-use Rattle.lookup.specs.declared.Reached.the-variants.{End, Stuck}
-use Rattle.lookup.proofs.Chains.{end-chain, stuck-chain, code-readable, code-chain}
+use Rattle.reader.specs.Reading.{WordsRead, Readable}
+use Rattle.reader.specs.declared.Reached.{Reached}
+use Rattle.reader.specs.declared.Reached.the-variants.{End, Stuck}
+use Rattle.reader.proofs.Chains.{end-chain, stuck-chain, code-readable, code-chain}
 use Rattle.table.specs.Built.{Built, BuiltRead}
 use Rattle.table.proofs.Building.{Good, good, low}
 

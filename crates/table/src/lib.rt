@@ -1,9 +1,9 @@
 // Document 01, "Words and lookup": a table built by itself, and a reading by itself. Demand 3 is about these two.
 use builder::build_part;
-use lookup::Reached;
-use lookup::words_u16;
 use memory::clear_u16;
 use memory::clear_u32;
+use reader::Reached;
+use reader::words_u16;
 use scope::Answer;
 use scope::Place;
 use words::Weighed;

@@ -6,8 +6,8 @@ use mathlib.Core.List.{List}
 use Rattle.scope.specs.Words.{Chain, symbols, stuckAt, chainBy}
 use Rattle.scope.specs.declared.Found.{Found}
 use Rattle.scope.specs.declared.Found.the-variants.{Word, NoWord}
-use Rattle.lookup.specs.declared.Reached.{Reached}
-use Rattle.lookup.specs.declared.Reached.the-variants.{End, Stuck}
+use Rattle.reader.specs.declared.Reached.{Reached}
+use Rattle.reader.specs.declared.Reached.the-variants.{End, Stuck}
 
 -- on from a word that is found, by its length
 unfoldable pub onward : Found → ℕ → (ℕ → ℕ) → ℕ

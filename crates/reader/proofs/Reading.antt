@@ -1,6 +1,6 @@
 -- The loop that reads words one after the other, for every element: what is read so far, and what the rest of the chain adds to it, is
 -- the chain (document 01, "Words and lookup": "takes every sample from that lookup"). Assumes nothing.
-use mathlib.Core.Path.{_≡_, refl, sym, ap, _∙_}
+use mathlib.Core.Path.{_≡_, refl, sym, ap, _∙_, subst}
 use Prim.Native.Nat.{ℕ, suc, _+_, _-_, _*_, _^_, _≤_, _<_}
 use native.Mathlib.Nat.{sub-zero}
 use native.Mathlib.Numerals.{add-one}
@@ -12,11 +12,16 @@ use mir.Val.{Fits}
 use mir.Syntax.{w8, w16, w64}
 use borrow.Author.Needs.{needs}
 use Rattle.scope.specs.Words.{Chain, symbols, stuckAt, _before_, onWord, chainBy}
+use Rattle.scope.specs.Lookup.{lookupIn}
 use Rattle.scope.specs.declared.Found.{Found}
 use Rattle.scope.specs.declared.Found.the-variants.{Word, NoWord}
 use Rattle.laws.proofs.Chains.{no-symbols}
-use Rattle.lookup.specs.Reading.{onward, positionAfter, reached, WordsRead, Readable}
-use Rattle.lookup.specs.declared.Reached.the-variants.{End, Stuck}
+use Rattle.reader.specs.Reading.{onward, positionAfter, reached, WordsRead, Readable}
+use Rattle.reader.specs.Stepping.{behind, stepFrom}
+use Rattle.reader.specs.declared.Step.{Step}
+use Rattle.reader.specs.declared.Step.the-variants.{Past, Still}
+use Rattle.reader.specs.declared.Reached.the-variants.{End, Stuck}
+use Rattle.reader.proofs.Stepping.{Taken, past-taken, still-none}
 
 -- the symbols read so far, and then the rest of the chain
 unfoldable pub then : List ℕ → Chain → Chain
@@ -56,15 +61,12 @@ reads-start look limit at out ok = record {
 }
 
 module _ (look : ℕ → Found) (limit at n : ℕ) (out : List ℕ) (p k : ℕ) (d : Reads look limit at n out p k) where
-  -- one word
-  module _ (o : Found) (h : k < length out) (e : o ≡ look p) where
+  -- one step
+  module _ (o : Step) (h : k < length out) (e : o ≡ stepFrom (look p) p) where
     left : n - k ≡ suc (n - (k + 1))
     left = omega (arith, d .long)
 
-    module _ (l s : ℕ) (f : o ≡ Word l s) where
-      found : look p ≡ Word l s
-      found = sym e ∙ f
-
+    module _ (l s : ℕ) (found : look p ≡ Word l s) where
       put-turn : take (k + 1) (set out k s) ≡ take k out ++ s ∷ []
       put-turn = ap (λ (j : ℕ). take j (set out k s)) (add-one k) ∙ take-suc-set out k s h
 
@@ -76,9 +78,8 @@ module _ (look : ℕ → Found) (limit at n : ℕ) (out : List ℕ) (p k : ℕ) 
       unfolding positionAfter onward
       place-turn = rw (left, found) refl
 
-      -- one word is read
-      pub reads-step : Reads look limit at n (set out k s) (p + l) (k + 1)
-      reads-step = record {
+      word-step : Reads look limit at n (set out k s) (p + l) (k + 1)
+      word-step = record {
         within = omega (arith, d .long);
         long = simp length-set (d .long);
         near = omega (arith, d .near, d .asked .short p l s found);
@@ -87,24 +88,28 @@ module _ (look : ℕ → Found) (limit at n : ℕ) (out : List ℕ) (p k : ℕ) 
         place = sym place-turn ∙ d .place;
       }
 
-      -- the next position is a number of 64 bits
-      pub reads-near : Fits w64 (p + l)
-      reads-near = record { fits = omega (arith, d .near, d .long, d .asked .near, d .asked .short p l s found) }
+    module _ (s b : ℕ) (f : o ≡ Past s b) where
+      taken : Taken (look p) p s b
+      taken = past-taken (look p) p s b (sym f ∙ e)
+
+      -- one word is read
+      pub reads-step : Reads look limit at n (set out k s) b (k + 1)
+      reads-step = subst (λ (x : ℕ). Reads look limit at n (set out k s) x (k + 1)) (sym (taken .end)) (word-step (taken .bits) s (taken .word))
 
       -- the symbol is below the element's limit
       pub reads-below : s < limit
-      reads-below = d .asked .symbol p l s found
+      reads-below = d .asked .symbol p (taken .bits) s (taken .word)
 
     -- no word
-    none : o ≡ NoWord → chainBy look at n ≡ stuckAt p
+    none : o ≡ Still → chainBy look at n ≡ stuckAt p
     unfolding chainBy onWord then
     none f =
-        let g : look p ≡ NoWord = sym e ∙ f in
+        let g : look p ≡ NoWord = still-none (look p) p (sym f ∙ e) in
         let a : then (take k out) (chainBy look p (n - k)) ≡ stuckAt p = rw (left, g) in
         sym (d .due) ∙ a
 
     -- the reading is stuck at p
-    pub reads-stuck : o ≡ NoWord → (out′ : List ℕ) → WordsRead look at n (Stuck p) out′
+    pub reads-stuck : o ≡ Still → (out′ : List ℕ) → WordsRead look at n (Stuck p) out′
     unfolding reached
     reads-stuck f out′ = record {
       answer = ap (λ (c : Chain). reached c (positionAfter look at n)) (sym (none f));
@@ -137,9 +142,22 @@ module _ (look : ℕ → Found) (limit at n : ℕ) (out : List ℕ) (p k : ℕ) 
       same : (ss : List ℕ) → symbols out ≡ symbols ss → out ≡ ss
       same ss g = cc
 
+  -- the next position is a number of 64 bits
+  reads-near : k < length out → behind (look p) p < 2 ^ 64
+  reads-near h = go (look p) refl
+    where
+      go : (o : Found) → look p ≡ o → behind o p < 2 ^ 64
+      go NoWord f = unfold behind in omega (arith, d .near, d .long, d .asked .near)
+      go (Word l s) f = unfold behind in omega (arith, d .near, d .long, d .asked .near, d .asked .short p l s f)
+
   -- the next place is a number of 64 bits
   pub reads-within : k < length out → Fits w64 (k + 1)
   reads-within h = record { fits = omega (arith, d .long, d .asked .near) }
+
+-- as `next` asks it of a table
+pub table-near : (table : List ℕ) (m : ℕ) (payload : List ℕ) (limit at n : ℕ) (out : List ℕ) (p k : ℕ)
+    → Reads (lookupIn table m payload) limit at n out p k → k < length out → behind (lookupIn table m payload p) p < 2 ^ 64
+table-near table m payload limit at n out p k d = reads-near (lookupIn table m payload) limit at n out p k d
 
 -- below the limit, a symbol fits its element
 pub fits-u16 : (s : ℕ) → s < 2 ^ 16 → Fits w16 s
@@ -149,4 +167,4 @@ fits-u16 s h = record { fits = h }
 pub fits-u8 : (s : ℕ) → s < 2 ^ 8 → Fits w8 s
 fits-u8 s h = record { fits = h }
 
-pub ruleset reading = (reads-start, reads-step, reads-near, reads-below, reads-stuck, reads-end, reads-within, fits-u16, fits-u8, needs)
+pub ruleset reading = (reads-start, reads-step, table-near, reads-below, reads-stuck, reads-end, reads-within, fits-u16, fits-u8, needs)

@@ -12,9 +12,9 @@ use Rattle.scope.specs.declared.Found.{Found}
 use Rattle.scope.specs.declared.Found.the-variants.{Word, NoWord}
 use Rattle.laws.proofs.Words.{FoundIn, found-in}
 use Rattle.laws.proofs.Chains.{chain-same}
-use Rattle.lookup.specs.Reading.{onward, positionAfter, reached, WordsRead, Readable}
-use Rattle.lookup.specs.declared.Reached.the-variants.{End, Stuck}
-use Rattle.lookup.proofs.Reading.{then}
+use Rattle.reader.specs.Reading.{onward, positionAfter, reached, WordsRead, Readable}
+use Rattle.reader.specs.declared.Reached.the-variants.{End, Stuck}
+use Rattle.reader.proofs.Reading.{then}
 
 -- ---- what the two answers say
 

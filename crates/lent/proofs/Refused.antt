@@ -20,7 +20,7 @@ use Rattle.scope.specs.declared.Place.the-variants.{Nothing}
 use Rattle.scope.specs.declared.Answer.{Answer}
 use Rattle.scope.specs.declared.Answer.the-variants.{Done, Refused}
 use Rattle.figures.specs.Sound.{Sound}
-use Rattle.figures.proofs.InOrder.{first-passed, then-passed, if-passed}
+use Rattle.refusals.proofs.InOrder.{first-passed, then-passed, if-passed}
 use Rattle.figures.proofs.Figures.{product-most, few-planes}
 use Rattle.lent.specs.Steps as steps
 use Rattle.lent.specs.Steps.{shapeChecks, sizeChecks}

@@ -2,5 +2,4 @@ pub mod Filling
 pub mod Rows
 pub mod Placing
 pub mod Written
-pub mod Parts
 pub mod Once

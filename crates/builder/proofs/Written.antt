@@ -11,7 +11,7 @@ use lib.Seq.{ext-getD}
 use Rattle.scope.specs.Base.{part}
 use Rattle.scope.specs.Words.{longest, shares, headBelow, heads, first, need}
 use Rattle.scope.specs.Lookup.{packed, wordIn, firstPart, tableOf}
-use Rattle.laws.proofs.Lists.{part-length}
+use Rattle.memory.proofs.Parts.{length-part}
 use Rattle.laws.proofs.Heads.{none-at-longest, first-head, no-head, no-head-short, first-small}
 use Rattle.laws.proofs.Table.{need-short, need-long, table-length, table-short, table-first, table-second}
 use Rattle.builder.specs.Slots.{Filled, Ready, Slotted}
@@ -78,5 +78,5 @@ part-ready ls workspace from to a b c d e f = record {
   small = b;
   full = c;
   is = refl;
-  whole = part-length workspace from to d e ∙ f;
+  whole = length-part workspace from (to - from) (omega (arith, d, e)) ∙ f;
 }

@@ -34,7 +34,7 @@ use Rattle.layout.proofs.Going.{Going, going-start, going-last, going-placed, g
 use Rattle.refusals.proofs.InOrder.{each-passed}
 use Rattle.slices.proofs.Sliced.{slice-passed}
 use Rattle.planes.specs.Standing.{Planes}
-use Rattle.planes.proofs.Paste.{put-length}
+use Rattle.memory.proofs.Parts.{put-length}
 use Rattle.planes.proofs.Holds.{Holds, holds-more}
 use Rattle.tables.specs.Tables as tbl
 use Rattle.tables.specs.Tables.{planeNeed, tableStart, Tables, Coded}

@@ -3,7 +3,7 @@
 use mathlib.Core.Path.{_≡_, refl}
 use mathlib.Core.Bool.{Bool, true, false, cond}
 use Prim.Native.Nat.{ℕ, zero, suc, _+_, _-_, _*_, _%_, _^_, _≤_, _<_, min}
-use native.Mathlib.Nat.{mul-le-mul, mod-eq-of-lt, one-mul}
+use native.Mathlib.Nat.{mul-le-mul}
 use native.Mathlib.Numerals.{add-one}
 use native.Mathlib.Omega.{arith}
 use mir.Syntax.{w64}
@@ -12,6 +12,7 @@ use borrow.Author.Tests.{ne-eqb}
 use borrow.Author.Needs.{needs}
 use lib.Dec.{eqb}
 use lib.Pow.{pow-mono, pow-pos}
+use Rattle.memory.proofs.Powers.{shl-one}
 use Rattle.scope.specs.Base as base
 use Rattle.scope.specs.Base.{sumBelow}
 use Rattle.scope.specs.Geometry as geo
@@ -85,20 +86,17 @@ module _ (depth : ℕ) (h : depth ≤ 14) where
   power-small : 2 ^ depth ≤ 16384
   power-small = pow-mono h
 
-  shift-is : 1 * 2 ^ depth % 2 ^ 64 ≡ 2 ^ depth
-  shift-is = rw one-mul (mod-eq-of-lt (omega (arith, power-small)))
-
   -- a shifted 1 is 2^depth
   pub power-is : 1 * 2 ^ depth % 2 ^ 64 ≡ 2 ^ depth
-  power-is = shift-is
+  power-is = shl-one 64 depth (omega (arith, h))
 
   -- which is at least 1
   pub power-some : 1 ≤ 1 * 2 ^ depth % 2 ^ 64
-  power-some = rw shift-is (pow-pos depth)
+  power-some = rw power-is (pow-pos depth)
 
   -- and at most 16,384
   pub power-most : 1 * 2 ^ depth % 2 ^ 64 ≤ 16384
-  power-most = rw shift-is power-small
+  power-most = rw power-is power-small
 
 pub ruleset powers = (power-is, power-some, power-most, needs)
 

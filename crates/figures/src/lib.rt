@@ -202,9 +202,9 @@ pub fn slice_count(g: Geometry) -> usize
     ensures { λ r. ⌜ (r ≡ sliceCount g) × (1 ≤ r) × (r ≤ 65536) ⌝ }
 {
     let f = g.family;
-    let p = plane_count(f);
+    let planes = plane_count(f);
     let k = slices_per_plane(g);
-    p * k
+    planes * k
 }
 
 // Where place k of the wire's plane p starts in the buffer.

@@ -21,7 +21,7 @@ use Rattle.words.specs.declared.Weighed.{Weighed}
 use Rattle.words.specs.declared.Weighed.the-variants as weighed
 use Rattle.layout.specs.Placed as placed
 use Rattle.layout.specs.Placed.{layoutChecks}
-use Rattle.figures.proofs.InOrder.{first-passed, then-passed, if-passed}
+use Rattle.refusals.proofs.InOrder.{first-passed, then-passed, if-passed}
 use Rattle.layout.proofs.Checks.{layout-indices, layout-order}
 use Rattle.frame.specs.Words as wrd
 use Rattle.frame.specs.Words.{orNeed, lengthsWeighed, wordChecks}

@@ -1,3 +1,4 @@
 pub mod Needs
 pub mod Framed
+pub mod TooLong
 pub mod Once

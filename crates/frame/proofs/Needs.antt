@@ -8,7 +8,7 @@ use mathlib.Core.List.{List}
 use borrow.Author.Needs.{needs}
 use mir.Syntax.{w64}
 use mir.Val.{Fits}
-use lib.ListN.{length, take, drop}
+use lib.ListN.{take, drop}
 use Rattle.scope.specs.Base as base
 use Rattle.scope.specs.Base.{sumBelow}
 use Rattle.scope.specs.Refusals.{inOrder}
@@ -24,14 +24,14 @@ use Rattle.words.specs.declared.Weighed.{Weighed}
 use Rattle.words.specs.declared.Weighed.the-variants.{Need, Refused}
 use Rattle.words.proofs.Weighing.{need-passes, need-is, weighed-check}
 use Rattle.figures.proofs.Places.{planes-most}
-use Rattle.figures.proofs.InOrder.{none-yet, one-passed, one-refused}
-use Rattle.slices.proofs.Parts.{part-is}
+use Rattle.refusals.proofs.InOrder.{none-yet, one-passed, one-refused}
+use Rattle.figures.proofs.Lengths.{part-is}
 use Rattle.frame.specs.Words as wrd
 use Rattle.frame.specs.Words.{lengthsWeighed}
 
 -- plane p's part of the lent lengths is weighed as plane p
-pub part-weighed : (g : Geometry) (lengths : List ℕ) (p n : ℕ) (r : Weighed) → length lengths ≡ planeCount g * 2 ^ g .depth → p < planeCount g → n ≡ 2 ^ g .depth → r ≡ weighed (take (p * n + n - p * n) (drop (p * n) lengths)) p → r ≡ weighed (lengthsOf g lengths p) p
-part-weighed g lengths p n r el l en e = e ∙ ap (λ (ls : List ℕ). weighed ls p) (part-is g lengths p n el l en)
+pub part-weighed : (g : Geometry) (lengths : List ℕ) (p n : ℕ) (r : Weighed) → n ≡ 2 ^ g .depth → r ≡ weighed (take (p * n + n - p * n) (drop (p * n) lengths)) p → r ≡ weighed (lengthsOf g lengths p) p
+part-weighed g lengths p n r en e = e ∙ ap (λ (ls : List ℕ). weighed ls p) (part-is g lengths p n en)
 
 -- ---- the loop: the planes before p passed, and their needs are summed
 pub record Summed (g : Geometry) (lengths : List ℕ) (planes sum p : ℕ) : Type 0 where

@@ -13,11 +13,12 @@ use lib.ListN.{length}
 use lib.Dec.{eqb, ltb, leb}
 use lib.Pow.{pow-mono, pow-pos}
 use borrow.Author.Tests.{eq-eqb, lt-ltb, le-ltb, le-leb, ltb-true, eqb-true, leb-true}
+use Rattle.scope.proofs.Tests.{and-both}
 use Rattle.scope.specs.Base.{halfUp, one, count, sumBelow}
 use Rattle.scope.specs.Words.{longest, startDown, first, wordOf, lengthOf, shares, isHead, headBelow, heads, need, needFrom}
 use Rattle.laws.specs.Tiers.{end}
 use Rattle.laws.proofs.Counts.{which, one-le, at-most-longest}
-use Rattle.laws.proofs.Words.{both, Has, has, before-shorter, word-lt-end}
+use Rattle.laws.proofs.Words.{Has, has, before-shorter, word-lt-end}
 use Rattle.laws.proofs.Kraft.{end-fits}
 
 -- ---- a number before the first word of a length begins some longer word
@@ -114,7 +115,7 @@ unfolding headBelow isHead
 head-elim ls x zero k e = absurd (true≢false (sym e))
 head-elim ls x (suc n) k e = elim (or-cases (isHead ls x n) (headBelow ls x n) e) [
   | inl a ↦ (
-      let b = both (ltb 12 (lengthOf ls n)) (eqb (wordOf ls n / 2 ^ (lengthOf ls n - 12)) x) a in
+      let b = and-both (ltb 12 (lengthOf ls n)) (eqb (wordOf ls n / 2 ^ (lengthOf ls n - 12)) x) a in
       record { symbol = n; inside = k; long = ltb-true _ _ (b .0); is = eqb-true _ _ (b .1) })
   | inr b ↦ head-elim ls x n (omega arith) b
 ]

@@ -5,6 +5,5 @@ pub mod Accumulator
 pub mod Heads
 pub mod Lists
 pub mod Chains
-pub mod Shifts
 pub mod Table
 pub mod Lookup

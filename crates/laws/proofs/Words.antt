@@ -9,10 +9,11 @@ use native.Mathlib.Numerals.{add-one}
 use native.Mathlib.Decide.{decLe}
 use native.Mathlib.Omega.{arith}
 use mathlib.Core.List.{List}
-use mathlib.Core.Bool.{Bool, true, false, _&&_, true≢false}
+use mathlib.Core.Bool.{true, false, true≢false}
 use lib.Dec.{eqb, ltb}
 use lib.ListN.{length, take}
 use borrow.Author.Tests.{eq-eqb, lt-ltb, ltb-true, eqb-true}
+use Rattle.scope.proofs.Tests.{and-both}
 use Rattle.scope.specs.Base.{count}
 use Rattle.scope.specs.Bits.{window}
 use Rattle.scope.specs.Words.{longest, startDown, first, wordOf, lengthOf, beginsWith, wordBelow, wordAt, Begins}
@@ -133,23 +134,11 @@ one-word ls payload p s t bs bt = elim (decLe (lengthOf ls s) (lengthOf ls t)) [
 
 -- ---- the word at a position
 
-and-left : (a b : Bool) → (a && b) ≡ true → a ≡ true
-and-left true b e = refl
-and-left false b e = e
-
-and-right : (a b : Bool) → (a && b) ≡ true → b ≡ true
-and-right true b e = e
-and-right false b e = absurd (true≢false (sym e))
-
--- both of two tests that hold together
-pub both : (a b : Bool) → (a && b) ≡ true → (a ≡ true) × (b ≡ true)
-both a b e = (and-left a b e, and-right a b e)
-
 -- the test says what the proposition says
 pub begins-of-test : (ls payload : List ℕ) (p s : ℕ) → s < length ls → beginsWith ls payload p s ≡ true → Begins ls payload p s
 unfolding beginsWith
 begins-of-test ls payload p s h e =
-    let b = both (ltb 0 (lengthOf ls s)) (eqb (window payload p (lengthOf ls s)) (wordOf ls s)) e in
+    let b = and-both (ltb 0 (lengthOf ls s)) (eqb (window payload p (lengthOf ls s)) (wordOf ls s)) e in
     record { inside = h; some = ltb-true _ _ (b .0); same = eqb-true _ _ (b .1) }
 
 -- and the other way round

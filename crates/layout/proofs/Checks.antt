@@ -18,7 +18,7 @@ use Rattle.figures.specs.Sound.{Sound}
 use Rattle.figures.proofs.Places.{slice-count-some}
 use Rattle.layout.specs.Placed as placed
 use Rattle.layout.specs.Placed.{layoutChecks}
-use Rattle.figures.proofs.InOrder.{first-passed, then-passed, if-passed}
+use Rattle.refusals.proofs.InOrder.{first-passed, then-passed, if-passed}
 use Rattle.scope.specs.declared.Geometry.{Geometry}
 use Rattle.scope.specs.declared.Place.{Place}
 use Rattle.scope.specs.declared.Place.the-variants.{Nothing}

@@ -10,6 +10,7 @@ use borrow.Author.Needs.{needs}
 use lib.ListN.{getD, set}
 use Rattle.scope.specs.Refusals.{inOrder}
 use Rattle.scope.specs.Geometry.{planeCount, slicesPerPlane, sliceCount}
+use Rattle.scope.specs.Layout as lay
 use Rattle.scope.specs.Layout.{planeIndex, namedBefore}
 use Rattle.scope.specs.Frame.{indexCheck}
 use Rattle.figures.specs.Sound.{Sound}
@@ -19,8 +20,9 @@ use Rattle.scope.specs.declared.Place.{Place}
 use Rattle.scope.specs.declared.Answer.{Answer}
 use Rattle.scope.specs.declared.Answer.the-variants.{Done, Refused}
 use Rattle.figures.proofs.Places.{planes-most, slices-most}
-use Rattle.figures.proofs.InOrder.{none-yet, one-passed, one-refused, each-passed}
-use Rattle.layout.proofs.Slices.{Counted, counted-start, counted-more, index-below, index-room}
+use Rattle.refusals.proofs.Rows.{index-below, index-room}
+use Rattle.refusals.proofs.InOrder.{none-yet, one-passed, one-refused, each-passed}
+use Rattle.layout.proofs.Slices.{Counted, counted-start, counted-more}
 
 pub record Going (f : ℕ → Answer) (frame : List ℕ) (g : Geometry) (t : ℕ) (seen : List ℕ) (s : ℕ) : Type 0 where
   pub counted : Counted frame g seen s
@@ -57,6 +59,7 @@ module _ (f : ℕ → Answer) (frame : List ℕ) (g : Geometry) (t : ℕ) where
       going-place = w .counted .counts p going-plane
 
       room : getD seen p 0 < slicesPerPlane g
+      unfolding lay.placeInPlane
       room = rw (going-place, ei) (index-room frame g s fine)
 
       -- so slice s is that place of that plane

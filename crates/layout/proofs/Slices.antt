@@ -1,19 +1,17 @@
 -- Document 01, "Layout" and refusal 8: the slices in wire order. Each names a plane below P with fewer than K before it, and so the
 -- T = P·K of them are K of each plane. Assumes nothing.
 use mathlib.Core.Path.{_≡_, refl, sym, ap, _∙_}
-use mathlib.Core.Bool.{Bool, true, false}
 use mathlib.Core.List.{List, [], _∷_}
 use Prim.Native.Nat.{ℕ, zero, suc, _+_, _*_, _≤_, _<_}
 use native.Mathlib.Decide.{ℕ-discrete}
 use native.Mathlib.Numerals.{add-one}
 use native.Mathlib.Omega.{arith}
-use borrow.Author.Tests.{eq-eqb, ne-eqb, leb-false, le-leb, lt-leb}
+use borrow.Author.Tests.{eq-eqb, ne-eqb, le-leb, lt-leb}
 use borrow.Author.Needs.{needs}
-use lib.Dec.{leb}
 use lib.ListN.{length, getD, set, length-set}
 use lib.Seq.{getD-set-same, getD-set-other}
 use Rattle.scope.specs.Base.{sumBelow}
-use Rattle.scope.specs.Refusals.{refuseIf, _andThen_, inOrder}
+use Rattle.scope.specs.Refusals.{inOrder}
 use Rattle.scope.specs.Geometry.{planeCount, slicesPerPlane, sliceCount}
 use Rattle.scope.specs.Layout as lay
 use Rattle.scope.specs.Layout.{planeIndex, namedBefore}
@@ -23,7 +21,9 @@ use Rattle.scope.specs.declared.Geometry.{Geometry}
 use Rattle.scope.specs.declared.Place.the-variants.{Slice}
 use Rattle.scope.specs.declared.Answer.the-variants.{Done, Refused}
 use Rattle.figures.proofs.Counts.{all-full, sum-one-more, sum-none}
-use Rattle.figures.proofs.InOrder.{none-yet, one-passed, one-refused, each-passed}
+use Rattle.refusals.proofs.Rows.{index-below, index-room}
+use Rattle.refusals.proofs.InOrder.{none-yet, one-passed, one-refused, each-passed}
+use Rattle.figures.proofs.Four.{four-zeros}
 use Rattle.figures.proofs.Places.{planes-most}
 
 -- the array of counts
@@ -32,21 +32,6 @@ pub record Counted (frame : List ℕ) (g : Geometry) (seen : List ℕ) (s : ℕ)
   pub four : length seen ≡ 4
 
 module _ (frame : List ℕ) (g : Geometry) where
-  both-passed : (a b : Bool) (n m : ℕ) → Done ≡ (refuseIf a n (Slice m) andThen refuseIf b n (Slice m)) → (a ≡ false) × (b ≡ false)
-  both-passed false false n m e = (refl, refl)
-  both-passed true b n m e = (cc, cc)
-  both-passed false true n m e = (cc, cc)
-
-  -- a slice that passed names a plane
-  pub index-below : (s : ℕ) → Done ≡ indexCheck frame g s → planeIndex frame g s < planeCount g
-  unfolding frm.indexCheck lay.placeInPlane
-  index-below s e = leb-false _ _ (both-passed (leb (planeCount g) (planeIndex frame g s)) (leb (slicesPerPlane g) (namedBefore frame g (planeIndex frame g s) s)) 8 s e .0)
-
-  -- which has room for it
-  pub index-room : (s : ℕ) → Done ≡ indexCheck frame g s → namedBefore frame g (planeIndex frame g s) s < slicesPerPlane g
-  unfolding frm.indexCheck lay.placeInPlane
-  index-room s e = leb-false _ _ (both-passed (leb (planeCount g) (planeIndex frame g s)) (leb (slicesPerPlane g) (namedBefore frame g (planeIndex frame g s) s)) 8 s e .1)
-
   -- one more slice
   pub named-here : (s : ℕ) → namedBefore frame g (planeIndex frame g s) (suc s) ≡ suc (namedBefore frame g (planeIndex frame g s) s)
   unfolding lay.namedBefore
@@ -59,19 +44,19 @@ module _ (frame : List ℕ) (g : Geometry) where
 
   module _ (m : ℕ) (all : Done ≡ inOrder m (indexCheck frame g)) where
     named-most : (s : ℕ) → s ≤ m → (p : ℕ) → namedBefore frame g p s ≤ slicesPerPlane g
-    unfolding lay.namedBefore
+    unfolding lay.namedBefore lay.placeInPlane
     named-most zero l p = omega arith
     named-most (suc s) l p = go (ℕ-discrete p (planeIndex frame g s)) (named-most s (omega arith) p)
       where
         go : Dec (p ≡ planeIndex frame g s) → namedBefore frame g p s ≤ slicesPerPlane g → namedBefore frame g p (suc s) ≤ slicesPerPlane g
-        go (yes e) h = rw e (omega (arith, named-here s, index-room s (each-passed _ m s all l)))
+        go (yes e) h = rw e (omega (arith, named-here s, index-room frame g s (each-passed _ m s all l)))
         go (no e) h = omega (arith, named-other p s e)
 
     named-sum : (s : ℕ) → s ≤ m → sumBelow (planeCount g) (λ p. namedBefore frame g p s) ≡ s
     unfolding lay.namedBefore
     named-sum zero l = sum-none (planeCount g)
     named-sum (suc s) l =
-        sum-one-more (λ p. namedBefore frame g p s) (planeIndex frame g s) (planeCount g) (index-below s (each-passed _ m s all l))
+        sum-one-more (λ p. namedBefore frame g p s) (planeIndex frame g s) (planeCount g) (index-below frame g s (each-passed _ m s all l))
         ∙ omega (arith, named-sum s (omega arith))
 
   -- each plane gets K slices
@@ -97,14 +82,6 @@ module _ (frame : List ℕ) (g : Geometry) where
           rw (e, getD-set-same seen q (getD seen q 0 + 1) 0 k, add-one, add-one s, c .counts q hq, eq, named-here s)
       go p h (no e) =
           rw (getD-set-other seen q p (getD seen q 0 + 1) 0 e, add-one s, named-other p s (rw eq at e)) (c .counts p h)
-
--- four zeros, as a loop's array of counts starts
-pub four-zeros : (p : ℕ) → _≡_ {A = ℕ} (getD (0 ∷ 0 ∷ 0 ∷ 0 ∷ []) p 0) 0
-four-zeros zero = refl
-four-zeros (suc zero) = refl
-four-zeros (suc (suc zero)) = refl
-four-zeros (suc (suc (suc zero))) = refl
-four-zeros (suc (suc (suc (suc p)))) = refl
 
 module _ (frame : List ℕ) (g : Geometry) where
   -- four zeros count none

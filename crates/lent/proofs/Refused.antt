@@ -20,7 +20,8 @@ use Rattle.scope.specs.declared.Place.the-variants.{Nothing}
 use Rattle.scope.specs.declared.Answer.{Answer}
 use Rattle.scope.specs.declared.Answer.the-variants.{Done, Refused}
 use Rattle.figures.specs.Sound.{Sound}
-use Rattle.figures.proofs.InOrder.{first-passed, then-passed, if-passed}
+use Rattle.scope.proofs.Tests.{and-both}
+use Rattle.refusals.proofs.InOrder.{first-passed, then-passed, if-passed}
 use Rattle.figures.proofs.Figures.{product-most, few-planes}
 use Rattle.lent.specs.Steps as steps
 use Rattle.lent.specs.Steps.{shapeChecks, sizeChecks}
@@ -54,10 +55,6 @@ and-none a b e h = rw (e, h)
 -- both are true
 pub and-true : (a b : Bool) → a ≡ true → b ≡ true → (a && b) ≡ true
 and-true a b e h = rw (e, h)
-
-and-both : (a b : Bool) → (a && b) ≡ true → (a ≡ true) × (b ≡ true)
-and-both true b e = (refl, e)
-and-both false b e = (e, cc)
 
 or-either : (a b : Bool) (P : Type 0) → (a || b) ≡ true → (a ≡ true → P) → (b ≡ true → P) → P
 or-either true b P e l r = l refl

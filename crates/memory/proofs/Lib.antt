@@ -1,5 +1,6 @@
 pub mod InPlace
 pub mod Loops
+pub mod Parts
 pub mod Powers
 pub mod Clearing
 pub mod Sums

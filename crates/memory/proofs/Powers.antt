@@ -1,4 +1,4 @@
--- 2^depth for depths up to 16, as the code has it: a shift, a divisor, and a cap on what a remainder can be. Document 01,
+-- Powers of two as the code has them. 2^depth for depths up to 16 is a shift, a divisor, and a cap on what a remainder can be. Document 01,
 -- "All sums are modulo 2^depth". Assumes nothing.
 use mathlib.Core.Path.{_≡_, ap, _∙_}
 use Prim.Native.Nat.{ℕ, _+_, _-_, _*_, _%_, _^_, _≤_, _<_}
@@ -7,9 +7,13 @@ use native.Mathlib.Omega.{arith}
 use lib.Pow.{pow-pos, pow-mono, pow-lt, mod-mod-pow}
 use borrow.Author.Needs.{needs}
 
--- one shifted by depth
+-- 1 shifted by less than a width is a power of two
+pub shl-one : (w l : ℕ) → l < w → 1 * 2 ^ l % 2 ^ w ≡ 2 ^ l
+shl-one w l h = rw (one-mul (2 ^ l)) (mod-eq-of-lt (pow-lt {i = l} {j = w} h))
+
+-- so 1 shifted by depth is 2^depth
 pub power-shift : (depth : ℕ) → depth ≤ 16 → (1 * 2 ^ depth) % 2 ^ 32 ≡ 2 ^ depth
-power-shift depth h = rw one-mul (mod-eq-of-lt (pow-lt {j = 32} (omega arith)))
+power-shift depth h = shl-one 32 depth (omega arith)
 
 -- a power of two is not 0
 pub power-pos : (m depth : ℕ) → m ≡ 2 ^ depth → 0 < m

@@ -7,11 +7,12 @@ use native.Mathlib.Nat.{add-zero, add-suc, suc-inj}
 use native.Mathlib.Omega.{arith}
 use borrow.Author.Needs.{needs}
 use borrow.Author.Tests.{lt-ltb, le-ltb}
-use lib.ListN.{length, getD, take, drop, set, length-drop}
-use lib.Seq.{take-suc, getD-take, getD-drop, drop-drop, length-take-le}
+use lib.ListN.{length, getD, take, drop, set}
+use lib.Seq.{getD-take, drop-drop}
 use Rattle.scope.specs.Base.{grown, part, replaced}
 use Rattle.scope.specs.Prediction.{plus}
 use Rattle.memory.specs.Sum.{added}
+use Rattle.memory.proofs.Parts.{length-part, part-next}
 use Rattle.memory.proofs.InPlace.{At, at-from, at-step, grown-take, at-take}
 
 -- before the first turn
@@ -43,13 +44,6 @@ plus-more depth x y [] (b ∷ ys) e = absurd (omega arith)
 plus-more depth x y (a ∷ xs) [] e = absurd (omega arith)
 plus-more depth x y (a ∷ xs) (b ∷ ys) e =
     ap (λ (l : List ℕ). (a + b) % 2 ^ depth ∷ l) (plus-more depth x y xs ys (suc-inj e))
-
--- a stretch that is one longer
-part-more : (xs : List ℕ) (at n : ℕ) → at + n < length xs → part xs at (suc n) ≡ part xs at n ++ (getD xs (at + n) 0 ∷ [])
-part-more xs at n h = take-suc (drop at xs) n 0 (simp length-drop (omega arith)) ∙ rw getD-drop
-
-part-length : (xs : List ℕ) (at n : ℕ) → at + n ≤ length xs → length (part xs at n) ≡ n
-part-length xs at n h = length-take-le n (drop at xs) (simp length-drop (omega arith))
 
 module _ (depth from to : ℕ) (xs : List ℕ) where
   -- what stands before `to` stays
@@ -85,10 +79,10 @@ module _ (depth from to : ℕ) (xs : List ℕ) where
   sums-grown (suc n) l k =
       next n (omega arith) (omega arith)
       ∙ rw (
-        part-more xs to n (omega arith),
-        part-more xs from n (omega arith),
+        part-next xs to n (omega arith),
+        part-next xs from n (omega arith),
         plus-more depth (getD xs (to + n) 0) (getD xs (from + n) 0) (part xs to n) (part xs from n)
-            (part-length xs to n (omega arith) ∙ sym (part-length xs from n (omega arith))),
+            (length-part xs to n (omega arith) ∙ sym (length-part xs from n (omega arith))),
         sums-grown n (omega arith) (omega arith),
       )
       (append-assoc (take to xs) (plus depth (part xs to n) (part xs from n)) _)

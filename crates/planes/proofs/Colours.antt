@@ -1,12 +1,12 @@
 -- One plane added to another, and the planes of a correlated family with G added: they are the picture.
 use mathlib.Core.Path.{_≡_, refl, sym, ap, _∙_}
 use mathlib.Core.Bool.{Bool, true, false, cond}
-use mathlib.Core.List.{List, [], _∷_, _++_}
-use Prim.Native.Nat.{ℕ, zero, suc, _+_, _-_, _*_, _≤_, _<_}
+use mathlib.Core.List.{List, [], _∷_}
+use Prim.Native.Nat.{ℕ, zero, suc, _+_, _-_, _≤_, _<_}
 use native.Mathlib.Omega.{arith}
 use borrow.Author.Tests.{ne-eqb}
 use lib.Dec.{eqb}
-use lib.ListN.{length, take, drop, length-take, length-drop}
+use lib.ListN.{length, length-take, length-drop}
 use Rattle.scope.specs.Base as base
 use Rattle.scope.specs.Base.{part, replaced, sumBelow}
 use Rattle.scope.specs.Geometry as geo
@@ -20,7 +20,7 @@ use Rattle.figures.specs.Sound.{Sound}
 use Rattle.figures.proofs.Order.{Order, sum-upto, stretch-in}
 use Rattle.figures.proofs.Places.{order, sizes-alike, correlated-three}
 use Rattle.planes.specs.Standing.{Planes, withGreen, coloured}
-use Rattle.planes.proofs.Paste.{put-keeps}
+use Rattle.memory.proofs.Parts.{put-keeps}
 use Rattle.planes.proofs.Holds.{Holds, holds-put, holds-all}
 
 pub plus-length : (d : ℕ) (xs ys : List ℕ) → length xs ≡ length ys → length (plus d xs ys) ≡ length xs

@@ -2,21 +2,21 @@
 -- Planes are filled so, slice by slice (document 01, "Layout"), and tables in the workspace. No geometry here.
 use mathlib.Core.Path.{_≡_, refl, sym, ap, _∙_}
 use mathlib.Core.Bool.{Bool, true, false, cond}
-use mathlib.Core.List.{List, [], _∷_, _++_, append-nil}
-use Prim.Native.Nat.{ℕ, zero, suc, _+_, _-_, _*_, _≤_, _<_}
+use mathlib.Core.List.{List, [], _++_, append-nil}
+use Prim.Native.Nat.{ℕ, zero, suc, _+_, _-_, _≤_, _<_}
 use native.Mathlib.Decide.{ℕ-discrete, decLe}
-use native.Mathlib.Nat.{add-zero, add-suc}
+use native.Mathlib.Nat.{add-zero}
 use native.Mathlib.Omega.{arith}
 use borrow.Author.Tests.{eq-eqb, ne-eqb}
 use lib.Dec.{eqb}
-use lib.ListN.{length, take, drop}
+use lib.ListN.{length, take}
 use lib.Seq.{take-all, take-add}
 use Rattle.scope.specs.Base.{part, replaced, sumBelow}
 use Rattle.scope.specs.Base as base
 use Rattle.scope.specs.Frame as frm
 use Rattle.scope.specs.Frame.{planesUpTo}
 use Rattle.figures.proofs.Order.{Order, sum-next, stretch-in}
-use Rattle.planes.proofs.Paste.{part-before, part-after, part-more, put-keeps}
+use Rattle.memory.proofs.Parts.{part-before, part-after, part-more, put-keeps}
 
 -- plane p holds xs p so far, so p samples long
 pub record Holds (P : ℕ) (σ size : ℕ → ℕ) (so : ℕ → ℕ) (xs : ℕ → List ℕ) (buf : List ℕ) : Type 0 where

@@ -1,4 +1,3 @@
-pub mod Paste
 pub mod Holds
 pub mod Colours
 pub mod Laid

@@ -29,7 +29,7 @@ use Rattle.scope.specs.declared.Answer.{Answer}
 use Rattle.scope.specs.declared.Answer.the-variants.{Done, Refused}
 use Rattle.figures.specs.Sound.{Sound}
 use Rattle.slices.proofs.Sliced.{slice-in, prefix-in, raw-bytes}
-use Rattle.slices.proofs.Parts.{part-room, part-is, part-start-fits, part-end-fits, part-length}
+use Rattle.figures.proofs.Lengths.{part-room, part-is, part-start-fits, part-end-fits, part-few}
 use Rattle.reading.specs.Slice.{Residues, residuesIn, TableAt, Sliced}
 
 -- ---- residues
@@ -116,7 +116,7 @@ module _ (frame : List ℕ) (g : Geometry) (lengths : List ℕ) (t s p n : ℕ) 
       unfolding residuesIn frm.residuesOf lay.isRaw lay.payloadOf
       own =
           ap (λ (y : ℕ). residuesIn y (take (p * m + m - p * m) (drop (p * m) lengths)) frame from to n) (sym ed)
-          ∙ rw (part-is g lengths p m (w .lengths-are) (w .below-planes) em, ef, et, w .samples, w .plane)
+          ∙ rw (part-is g lengths p m em, ef, et, w .samples, w .plane)
 
       passed-kind : readCheck frame g lengths s ≡ readable p (residuesOf frame g lengths s)
       unfolding frm.readCheck
@@ -143,13 +143,13 @@ module _ (frame : List ℕ) (g : Geometry) (lengths : List ℕ) (t s p n : ℕ) 
     lengths-room = part-room g lengths p m (w .lengths-are) (w .below-planes) em
 
     pub lengths-start : m ≤ 16384 → Fits w64 (p * m)
-    lengths-start h = part-start-fits g lengths p m (w .lengths-are) (w .below-planes) em h
+    lengths-start h = part-start-fits g p m (w .below-planes) h
 
     pub lengths-end : m ≤ 16384 → Fits w64 (p * m + m)
-    lengths-end h = part-end-fits g lengths p m (w .lengths-are) (w .below-planes) em h
+    lengths-end h = part-end-fits g p m (w .below-planes) h
 
     pub lengths-few : m ≤ 16384 → length (take (p * m + m - p * m) (drop (p * m) lengths)) ≤ 16384
-    lengths-few h = part-length g lengths p m (w .lengths-are) (w .below-planes) em h
+    lengths-few h = part-few lengths p m h
 
     pub lengths-256 : g .depth ≡ 8 → length (take (p * m + m - p * m) (drop (p * m) lengths)) ≤ 256
     lengths-256 d =
@@ -158,7 +158,7 @@ module _ (frame : List ℕ) (g : Geometry) (lengths : List ℕ) (t s p n : ℕ) 
         omega (arith, q, k, length-take (p * m + m - p * m) (drop (p * m) lengths))
 
     pub lengths-table : (ws : List ℕ) (a e x : ℕ) → TableAt (lengthsOf g lengths p) ws a e x → TableAt (take (p * m + m - p * m) (drop (p * m) lengths)) ws a e x
-    lengths-table ws a e x h = rw (part-is g lengths p m (w .lengths-are) (w .below-planes) em) h
+    lengths-table ws a e x h = rw (part-is g lengths p m em) h
 
 pub ruleset slicing = (prefix-ok, end-ok, kind-in, raw-room, no-kind-0, no-kind-4, lengths-room, lengths-start, lengths-end, lengths-few, lengths-256, lengths-table, needs)
 

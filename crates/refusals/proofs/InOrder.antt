@@ -1,30 +1,44 @@
--- Checks one after another, as a loop goes through them: those before i have passed, check i refuses, all have passed.
-use mathlib.Core.Path.{_≡_, refl, sym, ap, _∙_}
-use Prim.Native.Nat.{ℕ, zero, suc, _+_, _-_, _≤_, _<_}
+-- Checks one after another, by a loop: those before i have passed, check i refuses, all have passed (document 01, "Checked in this
+-- order; the first that applies is given"). Assumes nothing.
+use mathlib.Core.Path.{_≡_, refl}
+use Prim.Native.Nat.{ℕ, zero, suc, _+_, _-_, _<_}
 use native.Mathlib.Nat.{add-zero, add-suc}
 use native.Mathlib.Numerals.{add-one}
 use native.Mathlib.Omega.{arith}
-use Rattle.scope.specs.Refusals.{_andThen_, inOrder}
+use mathlib.Core.Bool.{Bool, true, false}
+use Rattle.scope.specs.Refusals.{refuseIf, _andThen_, inOrder}
 use Rattle.scope.specs.declared.Place.{Place}
 use Rattle.scope.specs.declared.Answer.{Answer}
 use Rattle.scope.specs.declared.Answer.the-variants.{Done, Refused}
 
--- where a check and more have passed, the check has, and the rest has
+-- where a check and more have passed, the check has
 pub first-passed : (a b : Answer) → Done ≡ (a andThen b) → Done ≡ a
 first-passed Done b e = refl
 first-passed (Refused n p) b e = e
 
+-- and so has the rest
 pub then-passed : (a b : Answer) → Done ≡ (a andThen b) → Done ≡ b
 then-passed Done b e = e
 then-passed (Refused n p) b e = cc
 
+-- a test that refused nothing is false
+pub if-passed : (t : Bool) (n : ℕ) (p : Place) → Done ≡ refuseIf t n p → t ≡ false
+if-passed false n p e = refl
+if-passed true n p e = cc
+
+-- and so are two of them
+pub both-passed : (a b : Bool) (n m : ℕ) (p q : Place) → Done ≡ (refuseIf a n p andThen refuseIf b m q) → (a ≡ false) × (b ≡ false)
+both-passed a b n m p q e =
+    (if-passed a n p (first-passed (refuseIf a n p) (refuseIf b m q) e), if-passed b m q (then-passed (refuseIf a n p) (refuseIf b m q) e))
+
+-- the checks f 0, f 1, ..
 module _ (f : ℕ → Answer) where
-  -- before the first check
+  -- before the first
   pub none-yet : Done ≡ inOrder 0 f
   unfolding inOrder
   none-yet = refl
 
-  -- one more has passed
+  -- check i passed
   pub one-passed : (i : ℕ) → Done ≡ inOrder i f → Done ≡ f i → Done ≡ inOrder (i + 1) f
   unfolding inOrder
   one-passed i e h = rw (add-one, ← e, ← h)
@@ -34,7 +48,7 @@ module _ (f : ℕ → Answer) where
   stays n p i zero e = rw add-zero e
   stays n p i (suc k) e = rw (add-suc, ← stays n p i k e)
 
-  -- the first that refuses is the answer of all
+  -- check i refuses, and what it says is the answer of all
   pub one-refused : (m i n : ℕ) (p : Place) → i < m → Done ≡ inOrder i f → Refused n p ≡ f i → Refused n p ≡ inOrder m f
   unfolding inOrder
   one-refused m i n p l e h =

@@ -1,11 +1,10 @@
 -- Demand 1, proved from the statement of the frame entries.
 use mathlib.Core.Path.{_≡_, refl, sym, ap, _∙_}
-use Prim.Native.Nat.{ℕ, zero, suc, _≤_, _<_}
-use mathlib.Core.Bool.{Bool, true, false}
+use Prim.Native.Nat.{ℕ, _≤_, _<_}
+use mathlib.Core.Bool.{Bool}
 use mathlib.Core.List.{List}
 use native.Mathlib.Omega.{arith}
 use borrow.Author.Tests.{le-leb, lt-leb}
-use lib.Dec.{leb}
 use lib.ListN.{length, replicate}
 use Rattle.scope.specs.Base.{zeros}
 use Rattle.scope.specs.Refusals.{numberOf, leftBy}
@@ -14,7 +13,7 @@ use Rattle.scope.specs.declared.Geometry.{Geometry}
 use Rattle.scope.specs.declared.Place.{Place}
 use Rattle.scope.specs.declared.Answer.{Answer}
 use Rattle.scope.specs.declared.Answer.the-variants.{Done, Refused}
-use Rattle.refusals.specs.Rows.{Every, LentRows, FrameRows}
+use Rattle.refusals.specs.Rows.{Every}
 use Rattle.refusals.specs.Memory.{Outcome, Accounted, Forgotten, Demand1}
 use Rattle.refusals.proofs.Rows.{every-answer}
 

@@ -1,17 +1,16 @@
 -- The three ways out of a frame entry, and what each leaves: refused before anything is written, refused after, done.
-use mathlib.Core.Path.{_≡_, refl, sym, ap, _∙_}
-use Prim.Native.Nat.{ℕ, _≤_, _<_}
+use mathlib.Core.Path.{_≡_, refl, sym, _∙_}
+use Prim.Native.Nat.{ℕ}
 use mathlib.Core.Bool.{Bool, true, false}
 use mathlib.Core.List.{List}
 use lib.Dec.{leb}
 use lib.ListN.{length, replicate}
-use Rattle.scope.specs.Refusals.{_andThen_, leftBy}
+use Rattle.scope.specs.Refusals.{leftBy}
 use Rattle.scope.specs.Frame.{lentChecks, restOf, answerOf, pictureOf, planesAfter, workspaceAfter, Decoded}
 use Rattle.scope.specs.declared.Geometry.{Geometry}
 use Rattle.scope.specs.declared.Place.{Place}
 use Rattle.scope.specs.declared.Answer.{Answer}
 use Rattle.scope.specs.declared.Answer.the-variants.{Done, Refused}
-use Rattle.refusals.specs.Rows.{Every, LentRows, FrameRows}
 use Rattle.refusals.proofs.Rows.{every-lent, every-rest, every-refused}
 
 -- which side of 4 a number is on

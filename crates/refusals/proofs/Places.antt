@@ -1,5 +1,5 @@
 -- The places of a decode's answers are small, so that they cross the host's boundary as 32-bit numbers.
-use mathlib.Core.Path.{_≡_, refl, sym, ap, _∙_}
+use mathlib.Core.Path.{_≡_, sym, _∙_}
 use Prim.Native.Nat.{ℕ, _≤_, _<_}
 use mathlib.Core.Bool.{Bool}
 use mathlib.Core.List.{List}
@@ -14,7 +14,7 @@ use Rattle.scope.specs.declared.Geometry.{Geometry}
 use Rattle.scope.specs.declared.Place.{Place}
 use Rattle.scope.specs.declared.Answer.{Answer}
 use Rattle.scope.specs.declared.Answer.the-variants.{Done, Refused}
-use Rattle.refusals.specs.Rows.{Every, LentRows, FrameRows}
+use Rattle.refusals.specs.Rows.{FrameRows}
 use Rattle.refusals.proofs.Rows.{every-next, every-lent, every-rest, every-refused}
 
 abbrev Small : ℕ → Place → Type 0

@@ -1,6 +1,6 @@
 -- What holds of every row of the table holds of every answer: said once over what is said (`Q`).
-use mathlib.Core.Path.{_≡_, refl, sym, ap, _∙_}
-use Prim.Native.Nat.{ℕ, zero, suc, _+_, _-_, _*_, _^_, _≤_, _<_}
+use mathlib.Core.Path.{_≡_, refl}
+use Prim.Native.Nat.{ℕ, zero, suc, _+_, _-_, _*_, _^_, _<_}
 use mathlib.Core.Bool.{Bool, true, false, not, _&&_}
 use mathlib.Core.List.{List}
 use native.Mathlib.Omega.{arith}
@@ -18,25 +18,22 @@ use Rattle.scope.specs.declared.Place.the-variants.{Slice, Plane, Nothing}
 use Rattle.scope.specs.declared.Answer.{Answer}
 use Rattle.scope.specs.declared.Answer.the-variants.{Done, Refused}
 use Rattle.refusals.specs.Rows.{Every, LentRows, FrameRows}
-use Rattle.refusals.proofs.InOrder.{first-passed, then-passed, each-passed}
+use Rattle.refusals.proofs.InOrder.{first-passed, then-passed, both-passed, each-passed}
 
 -- ---- the indices, once they have passed
 
-one-fails : (a b : Bool) (n : ℕ) (p : Place) → Done ≡ (refuseIf a n p andThen refuseIf b n p) → (a ≡ false) × (b ≡ false)
-one-fails false false n p e = (refl, refl)
-one-fails true b n p e = (cc, cc)
-one-fails false true n p e = (cc, cc)
+module _ (frame : List ℕ) (g : Geometry) (s : ℕ) (e : Done ≡ indexCheck frame g s) where
+  passed : (leb (planeCount g) (planeIndex frame g s) ≡ false) × (leb (slicesPerPlane g) (placeInPlane frame g s) ≡ false)
+  unfolding indexCheck
+  passed = both-passed (leb (planeCount g) (planeIndex frame g s)) (leb (slicesPerPlane g) (placeInPlane frame g s)) 8 8 (Slice s) (Slice s) e
 
--- slice s names a plane, and that plane has fewer than K slices before it
-pub index-below : (frame : List ℕ) (g : Geometry) (s : ℕ) → Done ≡ indexCheck frame g s → planeIndex frame g s < planeCount g
-unfolding indexCheck
-index-below frame g s e =
-    leb-false _ _ (one-fails (leb (planeCount g) (planeIndex frame g s)) (leb (slicesPerPlane g) (placeInPlane frame g s)) 8 (Slice s) e .0)
+  -- slice s names a plane
+  pub index-below : planeIndex frame g s < planeCount g
+  index-below = leb-false _ _ (passed .0)
 
-pub index-room : (frame : List ℕ) (g : Geometry) (s : ℕ) → Done ≡ indexCheck frame g s → placeInPlane frame g s < slicesPerPlane g
-unfolding indexCheck
-index-room frame g s e =
-    leb-false _ _ (one-fails (leb (planeCount g) (planeIndex frame g s)) (leb (slicesPerPlane g) (placeInPlane frame g s)) 8 (Slice s) e .1)
+  -- which has fewer than K slices before it
+  pub index-room : placeInPlane frame g s < slicesPerPlane g
+  index-room = leb-false _ _ (passed .1)
 
 -- what the checks of a frame have passed when all have
 pub indices-passed : (frame : List ℕ) (g : Geometry) (lengths : List ℕ) (w : ℕ) → Done ≡ frameChecks frame g lengths w → Done ≡ inOrder (sliceCount g) (indexCheck frame g)

@@ -2,14 +2,12 @@
 -- that finds the shortest of each. Assumes nothing.
 use mathlib.Core.Path.{_≡_, refl, sym, ap, _∙_}
 use Prim.Native.Nat.{ℕ, suc, _+_, _-_, _*_, _^_, _≤_, _<_}
-use native.Mathlib.Nat.{mul-le-mul-right, suc-mul}
+use native.Mathlib.Nat.{mul-le-mul-right}
 use native.Mathlib.Decide.{ℕ-discrete, decLe}
 use native.Mathlib.Omega.{arith}
 use mathlib.Core.List.{List, [], _∷_}
-use mir.Syntax.{w64}
-use mir.Val.{Fits}
 use borrow.Author.Needs.{needs}
-use lib.ListN.{length, getD, take, drop, set, length-set, length-take, length-drop, drop-of-length-le}
+use lib.ListN.{length, getD, take, drop, set, length-set, drop-of-length-le}
 use lib.Seq.{getD-set-same, getD-set-other, take-nil, ext-getD}
 use Rattle.scope.specs.Geometry as geo
 use Rattle.scope.specs.Geometry.{planeCount, lengthsOf}
@@ -17,49 +15,15 @@ use Rattle.scope.specs.Words as words
 use Rattle.scope.specs.Words.{shortest}
 use Rattle.scope.specs.declared.Geometry.{Geometry}
 use Rattle.figures.proofs.Places.{planes-most}
-use Rattle.figures.proofs.Figures.{samples-most}
-use Rattle.layout.proofs.Slices.{four-zeros}
+use Rattle.figures.proofs.Lengths.{part-is, part-room, part-start-fits, part-end-fits, part-few}
+use Rattle.figures.proofs.Four.{four-zeros, entry-more, entry-none}
 use Rattle.slices.specs.Sizes.{Shortests}
 
--- plane p's part of the lent lengths, n each
-module _ (g : Geometry) (lengths : List ℕ) (p n : ℕ) (el : length lengths ≡ planeCount g * 2 ^ g .depth) (l : p < planeCount g) (en : n ≡ 2 ^ g .depth) where
-  together : length lengths ≡ planeCount g * n
-  together = rw en el
+-- what is found of plane p's part is found of plane p
+pub part-shortest : (g : Geometry) (lengths : List ℕ) (p n r : ℕ) → n ≡ 2 ^ g .depth → r ≡ shortest (take (p * n + n - p * n) (drop (p * n) lengths)) → r ≡ shortest (lengthsOf g lengths p)
+part-shortest g lengths p n r en e = e ∙ ap shortest (part-is g lengths p n en)
 
-  -- lies within them
-  pub part-room : p * n + n ≤ length lengths
-  part-room = omega (arith, together, suc-mul p n, mul-le-mul-right n l)
-
-  -- is plane p's lengths
-  pub part-is : take (p * n + n - p * n) (drop (p * n) lengths) ≡ lengthsOf g lengths p
-  unfolding geo.lengthsOf
-  part-is =
-      let e : p * n + n - p * n ≡ n = omega arith in
-      rw (e, en)
-
-  module _ (h : n ≤ 16384) where
-    all-small : length lengths ≤ 268435456
-    all-small = omega (arith, together, samples-most (planeCount g) n (omega (arith, planes-most (g .family))) h)
-
-    -- its start fits 64 bits
-    pub part-start-fits : Fits w64 (p * n)
-    part-start-fits = record { fits = omega (arith, part-room, all-small) }
-
-    -- and so does its end
-    pub part-end-fits : Fits w64 (p * n + n)
-    part-end-fits = record { fits = omega (arith, part-room, all-small) }
-
-    -- it is at most 16,384 long
-    pub part-length : length (take (p * n + n - p * n) (drop (p * n) lengths)) ≤ 16384
-    part-length =
-        let e : p * n + n - p * n ≡ n = omega arith in
-        rw e (simp (length-take, length-drop) (omega arith))
-
-  -- so what is found of the part is found of plane p
-  pub part-shortest : (r : ℕ) → r ≡ shortest (take (p * n + n - p * n) (drop (p * n) lengths)) → r ≡ shortest (lengthsOf g lengths p)
-  part-shortest r e = e ∙ ap shortest part-is
-
-pub ruleset parts = (part-room, part-start-fits, part-end-fits, part-length, part-shortest, needs)
+pub ruleset parts = (part-room, part-start-fits, part-end-fits, part-few, part-shortest, needs)
 
 -- there are none past the last plane
 none-past : (g : Geometry) (lengths : List ℕ) → length lengths ≡ planeCount g * 2 ^ g .depth → (p : ℕ) → planeCount g ≤ p → shortest (lengthsOf g lengths p) ≡ 0
@@ -104,23 +68,19 @@ module _ (g : Geometry) (lengths : List ℕ) (planes : ℕ) where
     found-step r l e b = record {
       planes-are = w .planes-are;
       whole = w .whole;
-      made = λ q h. made q h (ℕ-discrete q p);
-      rest = λ q h. getD-set-other at p q r 0 (λ z. omega arith) ∙ w .rest q (omega arith);
+      made = entry-more (λ q. shortest (lengthsOf g lengths q)) at (set at p r) p r (w .four) inside e refl (w .made);
+      rest = entry-none (λ q. shortest (lengthsOf g lengths q)) at (set at p r) p r (w .four) inside e refl (w .rest);
       small = λ q. small q (ℕ-discrete q p);
       four = simp length-set (w .four);
       within = omega arith;
       few = w .few;
     }
       where
-        inside : p < length at
-        inside = omega (arith, w .four, w .few)
-
-        made : (q : ℕ) → q < p + 1 → Dec (q ≡ p) → getD (set at p r) q 0 ≡ shortest (lengthsOf g lengths q)
-        made q h (yes z) = rw (z, getD-set-same at p r 0 inside) e
-        made q h (no z) = getD-set-other at p q r 0 z ∙ w .made q (omega arith)
+        inside : p < 4
+        inside = omega (arith, w .few)
 
         small : (q : ℕ) → Dec (q ≡ p) → getD (set at p r) q 0 < 256
-        small q (yes z) = rw (z, getD-set-same at p r 0 inside) b
+        small q (yes z) = rw (z, getD-set-same at p r 0 (omega (arith, inside, w .four))) b
         small q (no z) = rw (getD-set-other at p q r 0 z) (w .small q)
 
     -- all of them

@@ -26,7 +26,7 @@ use Rattle.scope.specs.declared.Answer.{Answer}
 use Rattle.scope.specs.declared.Answer.the-variants.{Done, Refused}
 use Rattle.figures.proofs.Places.{planes-most}
 use Rattle.layout.specs.Placed.{Placed}
-use Rattle.figures.proofs.InOrder.{first-passed, then-passed, if-passed, each-passed}
+use Rattle.refusals.proofs.InOrder.{first-passed, then-passed, if-passed, each-passed}
 use Rattle.slices.specs.Sizes as sizes
 use Rattle.slices.specs.Sizes.{sizeCheck, Shortests}
 use Rattle.slices.proofs.Shortness.{shortest-none, longest-none}

@@ -8,16 +8,13 @@ use native.Mathlib.Nat.{mul-le-mul-right, suc-mul}
 use native.Mathlib.Numerals.{add-one}
 use native.Mathlib.Omega.{arith}
 use borrow.Author.Needs.{needs}
-use mir.Syntax.{w64}
-use mir.Val.{Fits}
 use borrow.Author.Tests.{ltb-false, le-ltb}
 use lib.Dec.{ltb}
 use lib.ListN.{length, getD, set, take, drop, length-take, length-drop, length-set, length-append}
 use lib.Seq.{getD-set-same, getD-set-other, take-at, drop-at, drop-drop}
 use Rattle.scope.specs.Base as base
-use Rattle.scope.specs.Base.{part, replaced, sumBelow}
-use Rattle.scope.specs.Refusals.{refuseIf, _andThen_, inOrder}
-use Rattle.scope.specs.Geometry as geo
+use Rattle.scope.specs.Base.{replaced, sumBelow}
+use Rattle.scope.specs.Refusals.{inOrder}
 use Rattle.scope.specs.Geometry.{planeCount, lengthsOf}
 use Rattle.scope.specs.Words as wrd
 use Rattle.scope.specs.Words.{longest, shares, need, tooLong, overfull}
@@ -26,17 +23,16 @@ use Rattle.scope.specs.Frame as frm
 use Rattle.scope.specs.Frame.{lengthCheck, needOfAll}
 use Rattle.scope.specs.declared.Geometry.{Geometry}
 use Rattle.scope.specs.declared.Place.{Place}
-use Rattle.scope.specs.declared.Answer.{Answer}
 use Rattle.scope.specs.declared.Answer.the-variants.{Done, Refused}
 use Rattle.laws.proofs.Table.{table-length}
 use Rattle.words.specs.Weigh.{weighed}
 use Rattle.words.specs.declared.Weighed.{Weighed}
 use Rattle.words.specs.declared.Weighed.the-variants as weight
 use Rattle.words.proofs.Weighing.{need-is, need-passes, passes-need}
-use Rattle.figures.specs.Sound.{Sound}
 use Rattle.figures.proofs.Places.{planes-most}
-use Rattle.figures.proofs.Figures.{product-most}
-use Rattle.refusals.proofs.InOrder.{each-passed}
+use Rattle.figures.proofs.Four.{four-zeros, entry-more, entry-none, entry-four}
+use Rattle.figures.proofs.Lengths.{part-is, part-room, part-start-fits, part-end-fits, part-few}
+use Rattle.refusals.proofs.InOrder.{both-passed, each-passed}
 use Rattle.planes.proofs.Laid.{Laid, laid-start, laid-end, laid-room, laid-step}
 use Rattle.tables.specs.Tables.{planeNeed, tableStart, tablesUpTo, withTables, Tables, Coded}
 use Rattle.tables.specs.declared.Codes.{Codes}
@@ -71,63 +67,38 @@ built-at ls ws ws′ at n to en et e =
 
 -- ---- one plane's lengths
 
-check-passed : (a b : Bool) (n m : ℕ) (p : Place) → Done ≡ (refuseIf a n p andThen refuseIf b m p) → (a ≡ false) × (b ≡ false)
-check-passed false false n m p e = (refl, refl)
-check-passed true b n m p e = (cc, cc)
-check-passed false true n m p e = (cc, cc)
-
 module _ (g : Geometry) (lengths : List ℕ) (p : ℕ) where
   -- lengths that refusals 9 and 10 pass
   pub plane-short : Done ≡ lengthCheck g lengths p → longest (lengthsOf g lengths p) ≤ 18
   unfolding frm.lengthCheck wrd.tooLong
-  plane-short e = ltb-false _ _ (check-passed (tooLong (lengthsOf g lengths p)) (overfull (lengthsOf g lengths p)) 9 10 _ e .0)
+  plane-short e = ltb-false _ _ (both-passed (tooLong (lengthsOf g lengths p)) (overfull (lengthsOf g lengths p)) 9 10 _ _ e .0)
 
   pub plane-full : Done ≡ lengthCheck g lengths p → shares (lengthsOf g lengths p) ≤ 262144
   unfolding frm.lengthCheck wrd.overfull
-  plane-full e = ltb-false _ _ (check-passed (tooLong (lengthsOf g lengths p)) (overfull (lengthsOf g lengths p)) 9 10 _ e .1)
+  plane-full e = ltb-false _ _ (both-passed (tooLong (lengthsOf g lengths p)) (overfull (lengthsOf g lengths p)) 9 10 _ _ e .1)
 
   module _ (n : ℕ) (en : n ≡ 2 ^ g .depth) where
-    -- the part of the lengths that is lent
-    pub lent-lengths : take (p * n + n - p * n) (drop (p * n) lengths) ≡ lengthsOf g lengths p
-    unfolding geo.lengthsOf
-    lent-lengths =
-        let q : p * n + n - p * n ≡ n = omega arith in
-        rw (q, en)
-
-    pub lent-room : p < planeCount g → length lengths ≡ planeCount g * 2 ^ g .depth → p * n + n ≤ length lengths
-    lent-room l e = omega (arith, e, suc-mul p n, rw (← en) at (mul-le-mul-right (2 ^ g .depth) l), ap (λ (y : ℕ). planeCount g * y) en)
-
-    pub lent-few : n ≤ 16384 → length (take (p * n + n - p * n) (drop (p * n) lengths)) ≤ 16384
-    lent-few h = omega (arith, length-take (p * n + n - p * n) (drop (p * n) lengths))
-
     -- what is known of the plane's lengths is known of that part
     module _ (ok : Done ≡ lengthCheck g lengths p) where
       pub part-short : longest (take (p * n + n - p * n) (drop (p * n) lengths)) ≤ 18
-      part-short = rw lent-lengths (plane-short ok)
+      part-short = rw (part-is g lengths p n en) (plane-short ok)
 
       pub part-full : shares (take (p * n + n - p * n) (drop (p * n) lengths)) ≤ 262144
-      part-full = rw lent-lengths (plane-full ok)
+      part-full = rw (part-is g lengths p n en) (plane-full ok)
 
     pub part-need : (at len : ℕ) → at + need (lengthsOf g lengths p) ≤ len → at + need (take (p * n + n - p * n) (drop (p * n) lengths)) ≤ len
-    part-need at len h = rw lent-lengths h
+    part-need at len h = rw (part-is g lengths p n en) h
 
     pub part-table : (ws ws′ : List ℕ) (at : ℕ) → ws′ ≡ replaced ws at (need (take (p * n + n - p * n) (drop (p * n) lengths))) (tableOf (take (p * n + n - p * n) (drop (p * n) lengths))) → ws′ ≡ replaced ws at (need (lengthsOf g lengths p)) (tableOf (lengthsOf g lengths p))
-    part-table ws ws′ at e = rw lent-lengths at e
+    part-table ws ws′ at e = rw (part-is g lengths p n en) at e
 
     pub part-to : (to at : ℕ) → to ≡ at + need (take (p * n + n - p * n) (drop (p * n) lengths)) → to ≡ at + need (lengthsOf g lengths p)
-    part-to to at e = rw lent-lengths at e
+    part-to to at e = rw (part-is g lengths p n en) at e
 
     pub part-longest : (m : ℕ) → m ≡ longest (take (p * n + n - p * n) (drop (p * n) lengths)) → m ≡ longest (lengthsOf g lengths p)
-    part-longest m e = rw lent-lengths at e
+    part-longest m e = rw (part-is g lengths p n en) at e
 
--- the part's ends are numbers that fit
-pub start-fits : (g : Geometry) (p n : ℕ) → p < planeCount g → n ≤ 16384 → Fits w64 (p * n)
-start-fits g p n l h = record { fits = omega (arith, product-most p n 4 16384 (omega (arith, l, planes-most (g .family))) h) }
-
-pub end-fits : (g : Geometry) (p n : ℕ) → p < planeCount g → n ≤ 16384 → Fits w64 (p * n + n)
-end-fits g p n l h = record { fits = omega (arith, product-most p n 4 16384 (omega (arith, l, planes-most (g .family))) h) }
-
-pub ruleset lends = (start-fits, end-fits, lent-room, lent-few, part-short, part-full, part-need, part-table, part-to, part-longest, needs)
+pub ruleset lends = (part-start-fits, part-end-fits, part-room, part-few, part-short, part-full, part-need, part-table, part-to, part-longest, needs)
 
 -- ---- the loop
 
@@ -142,28 +113,6 @@ pub record Laying (g : Geometry) (lengths ws : List ℕ) (c : Codes) (planes at 
   pub planes-are : planes ≡ planeCount g
   pub within : i ≤ planes
 
-fours : (p : ℕ) → _≡_ {A = ℕ} (getD (0 ∷ 0 ∷ 0 ∷ 0 ∷ []) p 0) 0
-fours zero = refl
-fours (suc zero) = refl
-fours (suc (suc zero)) = refl
-fours (suc (suc (suc zero))) = refl
-fours (suc (suc (suc (suc p)))) = refl
-
--- one array of codes, with one entry more
-module _ (f : ℕ → ℕ) (xs ys : List ℕ) (i v : ℕ) (four : length xs ≡ 4) (l : i < 4) (ev : v ≡ f i) (ey : ys ≡ set xs i v) where
-  entry-more : ((p : ℕ) → p < i → getD xs p 0 ≡ f p) → (p : ℕ) → p < i + 1 → getD ys p 0 ≡ f p
-  entry-more h p k = rw ey (go (ℕ-discrete p i))
-    where
-      go : Dec (p ≡ i) → getD (set xs i v) p 0 ≡ f p
-      go (yes e) = rw (e, getD-set-same xs i v 0 (omega (arith, four))) ev
-      go (no e) = rw (getD-set-other xs i p v 0 e) (h p (omega arith))
-
-  entry-none : ((p : ℕ) → i ≤ p → getD xs p 0 ≡ 0) → (p : ℕ) → i + 1 ≤ p → getD ys p 0 ≡ 0
-  entry-none h p k = rw (ey, getD-set-other xs i p v 0 (omega arith)) (h p (omega arith))
-
-  entry-four : length ys ≡ 4
-  entry-four = rw ey (simp length-set four)
-
 module _ (g : Geometry) (lengths : List ℕ) where
   pub laying-start : (ws : List ℕ) (c : Codes) (planes : ℕ) → planes ≡ planeCount g → needOfAll g lengths ≤ length ws → c .from ≡ 0 ∷ 0 ∷ 0 ∷ 0 ∷ [] → c .to ≡ 0 ∷ 0 ∷ 0 ∷ 0 ∷ [] → c .longest ≡ 0 ∷ 0 ∷ 0 ∷ 0 ∷ [] → Laying g lengths ws c planes 0 0
   unfolding frm.needOfAll
@@ -174,9 +123,9 @@ module _ (g : Geometry) (lengths : List ℕ) where
           from = λ p l. absurd (omega (arith, l));
           to = λ p l. absurd (omega (arith, l));
           longest-is = λ p l. absurd (omega (arith, l));
-          no-from = λ p l. ap (λ (x : List ℕ). getD x p 0) ef ∙ fours p;
-          no-to = λ p l. ap (λ (x : List ℕ). getD x p 0) et ∙ fours p;
-          no-longest = λ p l. ap (λ (x : List ℕ). getD x p 0) em ∙ fours p;
+          no-from = λ p l. ap (λ (x : List ℕ). getD x p 0) ef ∙ four-zeros p;
+          no-to = λ p l. ap (λ (x : List ℕ). getD x p 0) et ∙ four-zeros p;
+          no-longest = λ p l. ap (λ (x : List ℕ). getD x p 0) em ∙ four-zeros p;
           four-from = ap length ef;
           four-to = ap length et;
           four-longest = ap length em;

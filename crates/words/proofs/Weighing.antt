@@ -16,7 +16,7 @@ use Rattle.scope.specs.declared.Geometry.{Geometry}
 use Rattle.scope.specs.declared.Place.{Place}
 use Rattle.scope.specs.declared.Place.the-variants.{Plane}
 use Rattle.laws.proofs.Counts.{which}
-use Rattle.laws.proofs.Shifts.{shl-one}
+use Rattle.memory.proofs.Powers.{shl-one}
 use Rattle.laws.proofs.Heads.{need-first, need-small, first-small, second-small, none-at-longest}
 use Rattle.laws.proofs.Kraft.{none-over}
 use Rattle.words.specs.Weigh.{firstsOf, weighed, answerOf}

@@ -85,9 +85,9 @@ pub fn firsts(lengths: &[u8]) -> [u32; 19]
     requires { ⌜ (length (now lengths) ≤ 16384) × (longest (now lengths) ≤ 18) × (shares (now lengths) ≤ 262144) ⌝ }
     ensures { λ r. ⌜ r ≡ firstsOf (now (lengths .entry)) ⌝ }
 {
-    let m = longest_of(lengths);
-    let f = first_words(lengths, m);
-    f.at
+    let longest = longest_of(lengths);
+    let starts = first_words(lengths, longest);
+    starts.at
 }
 
 // The need, from the longest length m and S, the first word of 12 bits.

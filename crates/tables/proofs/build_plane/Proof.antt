@@ -1,4 +1,5 @@
-use Rattle.tables.proofs.Laying.{lends, lent-few, part-short, part-full, part-need, part-table, part-to, part-longest}
+use Rattle.tables.proofs.Laying.{lends, part-short, part-full, part-need, part-table, part-to, part-longest}
+use Rattle.figures.proofs.Lengths.{part-few}
 use borrow.Author.Needs.{needs}
 use Rattle.tables.proofs.build_plane.Statement.{statement}
 use Rattle.tables.proofs.build_plane.Tie as tie
@@ -22,7 +23,7 @@ part-build-at-end : tie.Need-part-build-at-end
 part-build-at-end c = search lends
 
 build-at-requires : tie.Need-build-at-requires
-build-at-requires c κs = ((search lent-few, search part-short, search part-full), search part-need)
+build-at-requires c κs = ((search part-few, search part-short, search part-full), search part-need)
 
 same-length : tie.Need-same-length
 same-length c = search needs

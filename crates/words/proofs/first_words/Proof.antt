@@ -6,7 +6,7 @@ use native.Mathlib.Omega.{arith}
 use borrow.Author.Needs.{needs}
 use Rattle.scope.specs.Base.{count}
 use Rattle.scope.specs.Words.{overfull}
-use Rattle.laws.proofs.Shifts.{shl-one}
+use Rattle.memory.proofs.Powers.{shl-one}
 use Rattle.words.proofs.Counting.{counts-at}
 use Rattle.words.proofs.Walking.{Walked, walk-start, walk-step, walk-refused, walk-fits, walk-firsts}
 use Rattle.words.proofs.first_words.Statement.{statement}

@@ -1,17 +1,22 @@
--- A list of which one part is replaced: what another part, and the part that ends with it, then hold.
-use mathlib.Core.Path.{_≡_, refl, sym, ap, _∙_}
+-- A part of lent memory, and the memory once the part is replaced: what another part, and the part that ends with it, then hold.
+-- Document 01, "a stretch of the plane memory lent to the predictor" and "stretches of the lent workspace". Assumes nothing.
+use mathlib.Core.Path.{_≡_, sym, ap, _∙_}
 use mathlib.Core.List.{List, [], _∷_, _++_, append-assoc}
-use Prim.Native.Nat.{ℕ, zero, suc, _+_, _-_, _≤_, _<_, min}
+use Prim.Native.Nat.{ℕ, suc, _+_, _-_, _≤_, _<_}
 use native.Mathlib.Omega.{arith}
-use lib.ListN.{length, take, drop, length-append, length-take, length-drop, take-append-drop}
-use lib.Seq.{take-at, drop-at, take-all, take-append-le, drop-append-le, drop-drop, take-add, length-take-le}
+use lib.ListN.{getD, length, take, drop, length-append, length-take, length-drop, take-append-drop}
+use lib.Seq.{take-suc, getD-drop, take-at, drop-at, take-append-le, drop-append-le, drop-drop, take-add, length-take-le}
 use Rattle.scope.specs.Base.{part, replaced}
 
-length-part : (l : List ℕ) (at n : ℕ) → at + n ≤ length l → length (part l at n) ≡ n
-length-part l at n h = simp (length-take, length-drop) (omega arith)
+-- a part within the memory is as long as was asked
+pub length-part : (l : List ℕ) (at n : ℕ) → at + n ≤ length l → length (part l at n) ≡ n
+length-part l at n h = length-take-le n (drop at l) (simp length-drop (omega arith))
+
+-- a part that is one longer
+pub part-next : (l : List ℕ) (at n : ℕ) → at + n < length l → part l at (suc n) ≡ part l at n ++ (getD l (at + n) 0 ∷ [])
+part-next l at n h = take-suc (drop at l) n 0 (simp length-drop (omega arith)) ∙ rw getD-drop
 
 module _ (l : List ℕ) (at m : ℕ) where
-  -- a part that ends before a
   cut-before : (ys : List ℕ) (a : ℕ) → at + m ≤ a → a ≤ length l → part (take a l ++ ys) at m ≡ take m (drop at (take a l))
   cut-before ys a h k =
       let e : length (take a l) ≡ a = length-take-le a l k in
@@ -19,6 +24,7 @@ module _ (l : List ℕ) (at m : ℕ) where
       let c : m ≤ length (drop at (take a l)) = simp length-drop (omega arith) in
       rw (drop-append-le at (take a l) ys b) (take-append-le m (drop at (take a l)) ys c)
 
+  -- a part that ends before the one replaced
   pub part-before : (a n : ℕ) (xs : List ℕ) → at + m ≤ a → a ≤ length l → part (replaced l a n xs) at m ≡ part l at m
   part-before a n xs h k =
       cut-before _ a h k ∙ sym (cut-before (drop a l) a h k) ∙ ap (λ (y : List ℕ). part y at m) (take-append-drop a l)
@@ -33,7 +39,7 @@ module _ (l : List ℕ) (at m : ℕ) where
       in
       ap (take m) (ap (λ (y : ℕ). drop y (replaced l a n xs)) (sym z) ∙ sym (drop-drop (at - (a + n)) (a + n) (replaced l a n xs)) ∙ ap (drop (at - (a + n))) from ∙ drop-drop (at - (a + n)) (a + n) l ∙ ap (λ (y : ℕ). drop y l) z)
 
-  -- the part that ends with it
+  -- the part that ends with it has what was put in at its end
   pub part-more : (n : ℕ) (xs : List ℕ) → length xs ≡ n → at + m + n ≤ length l → part (replaced l (at + m) n xs) at (m + n) ≡ part l at m ++ xs
   part-more n xs e h =
       let k : length (take at l) ≡ at = length-take-le at l (omega arith) in
@@ -46,5 +52,6 @@ module _ (l : List ℕ) (at m : ℕ) where
 pub put-length : (l : List ℕ) (a n : ℕ) (xs : List ℕ) → a + n ≤ length l → length (replaced l a n xs) ≡ length l → length xs ≡ n
 put-length l a n xs h e = omega (arith, length-append (take a l) (xs ++ drop n (drop a l)), length-append xs (drop n (drop a l)), length-take a l, length-drop n (drop a l), length-drop a l)
 
+-- and so the whole keeps its length where it is
 pub put-keeps : (l : List ℕ) (a n : ℕ) (xs : List ℕ) → length xs ≡ n → a + n ≤ length l → length (replaced l a n xs) ≡ length l
 put-keeps l a n xs e h = simp (length-append, length-take, length-drop) (omega arith)

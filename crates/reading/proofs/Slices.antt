@@ -123,15 +123,15 @@ module _ (frame : List ℕ) (g : Geometry) (lengths : List ℕ) (t s p n : ℕ) 
       passed-kind = rw (← kind-is, kind-test kind l h, ← w .plane)
 
       module _ (out : List ℕ) (r : Bool) (x : Residues (residuesIn d (take (p * m + m - p * m) (drop (p * m) lengths)) frame from to n) r out) where
-        pub slice-done : r ≡ true → Done ≡ readCheck frame g lengths s
+        slice-done : r ≡ true → Done ≡ readCheck frame g lengths s
         unfolding frm.readable
         slice-done e = sym (passed-kind ∙ ap (readable p) (sym own ∙ x .read e))
 
-        pub slice-stuck : r ≡ false → Refused 14 (Plane p) ≡ readCheck frame g lengths s
+        slice-stuck : r ≡ false → Refused 14 (Plane p) ≡ readCheck frame g lengths s
         unfolding frm.readable
         slice-stuck e = sym (passed-kind ∙ ap (readable p) (sym own ∙ x .stuck e .1))
 
-        pub slice-samples : (ys : List ℕ) (wd f : ℕ) → r ≡ true → wd ≡ planeWidth g p → f ≡ fields g → ys ≡ samplesOf d kind wd f out → ys ≡ sliceSamples frame g lengths s
+        slice-samples : (ys : List ℕ) (wd f : ℕ) → r ≡ true → wd ≡ planeWidth g p → f ≡ fields g → ys ≡ samplesOf d kind wd f out → ys ≡ sliceSamples frame g lengths s
         unfolding frm.sliceSamples frm.symbolsOf
         slice-samples ys wd f e ew eff ey =
             let k : residuesOf frame g lengths s ≡ symbols out = sym own ∙ x .read e in
@@ -161,6 +161,32 @@ module _ (frame : List ℕ) (g : Geometry) (lengths : List ℕ) (t s p n : ℕ) 
     lengths-table ws a e x h = rw (part-is g lengths p m em) h
 
 pub ruleset slicing = (prefix-ok, end-ok, kind-in, raw-room, no-kind-0, no-kind-4, lengths-room, lengths-start, lengths-end, lengths-few, lengths-256, lengths-table, needs)
+
+-- what is known of a slice once its residues were read, each fact as the step that gives it says it
+pub record SliceRead (frame : List ℕ) (g : Geometry) (lengths : List ℕ) (t s p n from to kind d m : ℕ) (r : Bool) (out : List ℕ) : Type 0 where
+  pub sliced : Sliced frame g lengths t s p n
+  pub start : from ≡ sliceStart frame g s
+  pub end : to ≡ sliceEnd frame g s
+  pub predictor : kind ≡ getD frame (from + 1) 0
+  pub depth : g .depth ≡ d
+  pub symbol-count : m ≡ 2 ^ g .depth
+  pub from-left : 1 ≤ kind
+  pub to-median : kind ≤ 3
+  pub residues : Residues (residuesIn d (take (p * m + m - p * m) (drop (p * m) lengths)) frame from to n) r out
+
+-- and so what it answers, and the samples that are rebuilt from them
+module _ (frame : List ℕ) (g : Geometry) (lengths : List ℕ) (t s p n from to kind d m : ℕ) (r : Bool) (out : List ℕ) (w : SliceRead frame g lengths t s p n from to kind d m r out) where
+  pub read-done : r ≡ true → Done ≡ readCheck frame g lengths s
+  read-done =
+      slice-done frame g lengths t s p n (w .sliced) from to (w .start) (w .end) kind (w .predictor) d m (w .depth) (w .symbol-count) (w .from-left) (w .to-median) out r (w .residues)
+
+  pub read-stuck : r ≡ false → Refused 14 (Plane p) ≡ readCheck frame g lengths s
+  read-stuck =
+      slice-stuck frame g lengths t s p n (w .sliced) from to (w .start) (w .end) kind (w .predictor) d m (w .depth) (w .symbol-count) (w .from-left) (w .to-median) out r (w .residues)
+
+  pub read-samples : (ys : List ℕ) (wd f : ℕ) → r ≡ true → wd ≡ planeWidth g p → f ≡ fields g → ys ≡ samplesOf d kind wd f out → ys ≡ sliceSamples frame g lengths s
+  read-samples =
+      slice-samples frame g lengths t s p n (w .sliced) from to (w .start) (w .end) kind (w .predictor) d m (w .depth) (w .symbol-count) (w .from-left) (w .to-median) out r (w .residues)
 
 -- depths are at most 14
 pub depth-16 : (g : Geometry) → Sound g → g .depth ≤ 16

@@ -1,5 +1,5 @@
 use mathlib.Core.Path.{refl}
-use Rattle.reading.proofs.Slices.{slicing, prefix-ok, end-ok, kind-in, raw-room, no-kind-0, no-kind-4, lengths-256, lengths-table, slice-done, slice-stuck, slice-samples, depth-14, not-done}
+use Rattle.reading.proofs.Slices.{slicing, prefix-ok, end-ok, kind-in, raw-room, no-kind-0, no-kind-4, lengths-256, lengths-table, SliceRead, read-done, read-stuck, read-samples, depth-14, not-done}
 use borrow.Author.Needs.{needs}
 use Rattle.reading.proofs.slice_u8.Statement.{statement}
 use Rattle.reading.proofs.slice_u8.Tie as tie
@@ -70,9 +70,20 @@ returns-3 c =
     let not-below = not-above .before in
     let ended = not-below .before .before in
     let started = ended .before in
-    let entry = started .before .before .before .before .before in (
-      slice-done _ _ _ _ _ _ _ (entry .pre .0) _ _ (started .slice-start .ensures .0) (ended .slice-end .ensures) _ refl _ _ (entry .pre .1 .1) (counted .symbol-count .ensures .0) (not-below .if1 .left) (not-above .if2 .left) _ _ (read .residues-u8 .ensures) (tested .if3 .taken),
-      λ e. slice-samples _ _ _ _ _ _ _ (entry .pre .0) _ _ (started .slice-start .ensures .0) (ended .slice-end .ensures) _ refl _ _ (entry .pre .1 .1) (counted .symbol-count .ensures .0) (not-below .if1 .left) (not-above .if2 .left) _ _ (read .residues-u8 .ensures) _ _ _ (tested .if3 .taken) (wide .plane-width .ensures .0) (fielded .fields-of .ensures .0) (rebuilt .rebuild-u8 .ensures),
+    let entry = started .before .before .before .before .before in
+    let known : SliceRead _ _ _ _ _ _ _ _ _ _ _ _ _ _ = record {
+      sliced = entry .pre .0;
+      start = started .slice-start .ensures .0;
+      end = ended .slice-end .ensures;
+      predictor = refl;
+      depth = entry .pre .1 .1;
+      symbol-count = counted .symbol-count .ensures .0;
+      from-left = not-below .if1 .left;
+      to-median = not-above .if2 .left;
+      residues = read .residues-u8 .ensures;
+    } in (
+      read-done _ _ _ _ _ _ _ _ _ _ _ _ _ _ known (tested .if3 .taken),
+      λ e. read-samples _ _ _ _ _ _ _ _ _ _ _ _ _ _ known _ _ _ (tested .if3 .taken) (wide .plane-width .ensures .0) (fielded .fields-of .ensures .0) (rebuilt .rebuild-u8 .ensures),
     )
 
 same-length-2 : tie.Need-same-length-2
@@ -88,7 +99,18 @@ returns-4 c =
     let ended = not-below .before .before in
     let started = ended .before in
     let entry = started .before .before .before .before .before in
-    (slice-stuck _ _ _ _ _ _ _ (entry .pre .0) _ _ (started .slice-start .ensures .0) (ended .slice-end .ensures) _ refl _ _ (entry .pre .1 .1) (counted .symbol-count .ensures .0) (not-below .if1 .left) (not-above .if2 .left) _ _ (read .residues-u8 .ensures) (tested .if3 .left), λ e. search not-done)
+    let known : SliceRead _ _ _ _ _ _ _ _ _ _ _ _ _ _ = record {
+      sliced = entry .pre .0;
+      start = started .slice-start .ensures .0;
+      end = ended .slice-end .ensures;
+      predictor = refl;
+      depth = entry .pre .1 .1;
+      symbol-count = counted .symbol-count .ensures .0;
+      from-left = not-below .if1 .left;
+      to-median = not-above .if2 .left;
+      residues = read .residues-u8 .ensures;
+    } in
+    (read-stuck _ _ _ _ _ _ _ _ _ _ _ _ _ _ known (tested .if3 .left), λ e. search not-done)
 
 pub slice-u8-spec : {M : Type 1} → statement M
 slice-u8-spec =

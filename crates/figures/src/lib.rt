@@ -182,8 +182,8 @@ pub fn row_start(g: Geometry, p: usize, row: usize) -> usize
     ensures { λ r. ⌜ (r ≡ rowStart g p row) × (r ≤ 1073741824) ⌝ }
 {
     let at = plane_start(g, p);
-    let w = plane_width(g, p);
-    at + row * w
+    let pitch = plane_width(g, p);
+    at + row * pitch
 }
 
 // ---- the slices

@@ -1,4 +1,5 @@
--- The steps of the loops that clear and that add one stretch of a buffer to a later one. Assumes nothing.
+-- The steps of the loops that clear, and that add one stretch of a buffer to a later one (document 01, "All others leave both
+-- wholly zero", and "B and R are B'+G and R'+G modulo 2^depth"). Assumes nothing.
 use mathlib.Core.Bool.{cond}
 use Prim.Native.Nat.{ℕ, _+_, _-_, _%_, _^_}
 use lib.Dec.{ltb}

@@ -1,4 +1,5 @@
--- One plane added to another, and the planes of a correlated family with G added: they are the picture.
+-- Document 01, "B and R are B'+G and R'+G modulo 2^depth. The plane buffer holds G, B, R, (A)": one plane added to another, and the
+-- planes of Rgb and Rgba with G added are the picture. Assumes nothing.
 use mathlib.Core.Path.{_≡_, refl, sym, ap, _∙_}
 use mathlib.Core.Bool.{Bool, true, false, cond}
 use mathlib.Core.List.{List, [], _∷_}

@@ -1,5 +1,6 @@
--- Stretches laid one after another from a buffer's front, each at once: the tables of the planes in the workspace. Stretch p is
--- full once p is below i, and empty before. No geometry here, and no table.
+-- Stretches laid one after another from a buffer's front, each at once, as the tables of the planes in the workspace are (document
+-- 01, "Vectors of vectors become stretches of the lent workspace"). Stretch p is full once p is below i, and empty before. No
+-- geometry here, and no table. Assumes nothing.
 use mathlib.Core.Path.{_≡_, refl, sym, ap, _∙_}
 use mathlib.Core.Bool.{Bool, true, false, cond}
 use mathlib.Core.List.{List, [], _++_, append-nil}

@@ -1,5 +1,5 @@
--- How planes stand in the plane buffer while a frame is decoded. What private functions promise each other; nothing of it is
--- needed to read the product's own statements. Assumes nothing.
+-- Document 01, "Planes lie one after another with no gaps": how planes stand in the plane buffer while a frame is decoded. What
+-- private functions promise each other; nothing of it is needed to read the product's own statements. Assumes nothing.
 use mathlib.Core.Path.{_≡_}
 use mathlib.Core.Bool.{cond}
 use mathlib.Core.List.{List}

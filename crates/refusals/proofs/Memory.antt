@@ -1,4 +1,5 @@
--- Demand 1, proved from the statement of the frame entries.
+-- Demand 1 (specs/Memory.antt), proved from the statement of the frame entries: document 01, "Refusals 1 to 4 leave planes and
+-- workspace as found. All others leave both wholly zero." Assumes nothing.
 use mathlib.Core.Path.{_≡_, refl, sym, ap, _∙_}
 use Prim.Native.Nat.{ℕ, _≤_, _<_}
 use mathlib.Core.Bool.{Bool}

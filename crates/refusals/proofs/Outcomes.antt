@@ -1,4 +1,5 @@
--- The three ways out of a frame entry, and what each leaves: refused before anything is written, refused after, done.
+-- The three ways out of a frame entry, and what each leaves (document 01, "Refusals 1 to 4 leave planes and workspace as found. All
+-- others leave both wholly zero."): refused before anything is written, refused after, done. Assumes nothing.
 use mathlib.Core.Path.{_≡_, refl, sym, _∙_}
 use Prim.Native.Nat.{ℕ}
 use mathlib.Core.Bool.{Bool, true, false}

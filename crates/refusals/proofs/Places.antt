@@ -1,4 +1,5 @@
--- The places of a decode's answers are small, so that they cross the host's boundary as 32-bit numbers.
+-- Document 01, "Each carries its place: a slice, a plane, or nothing": the places of a decode's answers are small, so that they
+-- cross the host's boundary as 32-bit numbers. Assumes nothing.
 use mathlib.Core.Path.{_≡_, sym, _∙_}
 use Prim.Native.Nat.{ℕ, _≤_, _<_}
 use mathlib.Core.Bool.{Bool}

@@ -1,4 +1,5 @@
--- What holds of every row of the table holds of every answer: said once over what is said (`Q`).
+-- Document 01, "Refusal numbers": what holds of every row of the table holds of every answer, said once over what is said (`Q`);
+-- and what refusal 8 leaves of an index. Assumes nothing.
 use mathlib.Core.Path.{_≡_, refl}
 use Prim.Native.Nat.{ℕ, zero, suc, _+_, _-_, _*_, _^_, _<_}
 use mathlib.Core.Bool.{Bool, true, false, not, _&&_}

@@ -1,4 +1,4 @@
--- Demand 1: planes, or one of the numbered refusals; what lent memory holds after each; and that what it held before changes no
+-- Demand 1, of document 01's table: planes, or one of the numbered refusals; what lent memory holds after each; and that what it held before changes no
 -- answer and, except after 1 to 4, nothing left in it. Put about any outcome that the statement of a frame entry allows
 -- (`Decoded`). Assumes nothing.
 use mathlib.Core.Path.{_≡_}

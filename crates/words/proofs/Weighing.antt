@@ -45,36 +45,49 @@ twelve-small ls k f = elim (decLe (longest ls) 12) [
 ]
 
 -- the test of `first_words`, both ways
-pub test-bad : (fits over : Bool) → fits ≡ not over → not fits ≡ true → over ≡ true
+test-bad : (fits over : Bool) → fits ≡ not over → not fits ≡ true → over ≡ true
 test-bad fits over e a = not-false over (sym e ∙ not-true fits a)
 
 -- where it passes
-pub test-good : (fits over : Bool) → fits ≡ not over → not fits ≡ false → (fits ≡ true) × (over ≡ false)
+test-good : (fits over : Bool) → fits ≡ not over → not fits ≡ false → (fits ≡ true) × (over ≡ false)
 test-good fits over e a = (not-false fits a, not-true over (sym e ∙ not-false fits a))
 
-module _ (ls : List ℕ) (plane : ℕ) where
+-- m is what `longest_of` answers, fits and at what `first_words` does
+module _ (ls : List ℕ) (m : ℕ) (em : m ≡ longest ls) where
   -- a length above 18
-  pub weighed-9 : 18 < longest ls → Refused 9 (Plane plane) ≡ weighed ls plane
+  pub weighed-9 : (plane : ℕ) → 18 < m → Refused 9 (Plane plane) ≡ weighed ls plane
   unfolding weighed tooLong
-  weighed-9 a = sym (simp (lt-ltb _ _ a))
+  weighed-9 plane h =
+      let a : 18 < longest ls = omega (arith, h, em) in
+      sym (simp (lt-ltb _ _ a))
 
-  -- shares that exceed one
-  pub weighed-10 : longest ls ≤ 18 → overfull ls ≡ true → Refused 10 (Plane plane) ≡ weighed ls plane
-  unfolding weighed tooLong
-  weighed-10 a b = sym (simp (le-ltb _ _ a, b))
+  module _ (h : m ≤ 18) (fits : Bool) (ef : fits ≡ not (overfull ls)) where
+    short : longest ls ≤ 18
+    short = omega (arith, h, em)
 
-  -- the need, from what `first_words` gives
-  module _ (at : List ℕ) (k : longest ls ≤ 18) (over : overfull ls ≡ false) (is : at ≡ firstsOf ls) where
-    -- what `need_from` asks
-    pub twelve-fits : getD at 12 0 ≤ 4096
-    twelve-fits = omega (arith, firsts-twelve ls at is, twelve-small ls k (none-over ls over))
-
-    -- the need
-    pub weighed-need : (m n : ℕ) → m ≡ longest ls → n ≡ needFrom m (getD at 12 0) → Need n ≡ weighed ls plane
+    -- shares that exceed one
+    pub weighed-10 : (plane : ℕ) → not fits ≡ true → Refused 10 (Plane plane) ≡ weighed ls plane
     unfolding weighed tooLong
-    weighed-need m n e f =
-        ap Need (f ∙ ap (λ (x : ℕ). needFrom x (getD at 12 0)) e ∙ need-first ls k (none-over ls over) (getD at 12 0) (λ h. firsts-twelve ls at is))
-        ∙ sym (simp (le-ltb _ _ k, over))
+    weighed-10 plane t = sym (simp (le-ltb _ _ short, test-bad fits (overfull ls) ef t))
+
+    -- shares that do not
+    module _ (at : List ℕ) (t : not fits ≡ false) (ea : fits ≡ true → at ≡ firstsOf ls) where
+      over : overfull ls ≡ false
+      over = test-good fits (overfull ls) ef t .1
+
+      is : at ≡ firstsOf ls
+      is = ea (test-good fits (overfull ls) ef t .0)
+
+      -- what `need_from` asks
+      pub twelve-fits : getD at 12 0 ≤ 4096
+      twelve-fits = omega (arith, firsts-twelve ls at is, twelve-small ls short (none-over ls over))
+
+      -- the need
+      pub weighed-need : (plane n : ℕ) → n ≡ needFrom m (getD at 12 0) → Need n ≡ weighed ls plane
+      unfolding weighed tooLong
+      weighed-need plane n f =
+          ap Need (f ∙ ap (λ (x : ℕ). needFrom x (getD at 12 0)) em ∙ need-first ls short (none-over ls over) (getD at 12 0) (λ k. firsts-twelve ls at is))
+          ∙ sym (simp (le-ltb _ _ short, over))
 
 -- ---- what the cases say
 

@@ -106,17 +106,17 @@ pub(crate) fn need_from(m: usize, s: u32) -> usize
 }
 
 // Refusals 9 and 10 for one plane's lengths, else the workspace words that its table needs. No workspace is touched.
-pub fn weigh(lengths: &[u8], plane: usize) -> Weighed
+pub fn weigh(lengths: &[u8], p: usize) -> Weighed
     requires { ⌜ length (now lengths) ≤ 16384 ⌝ }
-    ensures { λ r. ⌜ r ≡ weighed (now (lengths .entry)) plane ⌝ }
+    ensures { λ r. ⌜ r ≡ weighed (now (lengths .entry)) p ⌝ }
 {
     let m = longest_of(lengths);
     if 18 < m {
-        return Weighed::Refused(9, Place::Plane(plane));
+        return Weighed::Refused(9, Place::Plane(p));
     }
     let f = first_words(lengths, m);
     if !f.fits {
-        return Weighed::Refused(10, Place::Plane(plane));
+        return Weighed::Refused(10, Place::Plane(p));
     }
     Weighed::Need(need_from(m, f.at[12]))
 }

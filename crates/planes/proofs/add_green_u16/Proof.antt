@@ -1,3 +1,4 @@
+-- `planes::add_green_u16` meets its contract: B and R are B'+G and R'+G modulo 2^depth (document 01). Assumes nothing.
 use Rattle.planes.proofs.Colours.{two-in, three-still-in, coloured-own, coloured-none, depth-most}
 use borrow.Author.Needs.{needs}
 use Rattle.planes.proofs.add_green_u16.Statement.{statement}

@@ -1,22 +1,15 @@
 -- Demands 1 and 2 of the entries themselves: of every call that the contracts of decode8 and decode16 allow. `Post` is the plain reading
 -- that Rattle itself makes of the `ensures` clauses of src/, so nothing here goes by another copy of the contract.
-use mathlib.Core.Path.{_≡_, refl, sym, ap, _∙_}
-use Prim.Native.Nat.{ℕ, _≤_, _<_}
+use mathlib.Core.Path.{_≡_, ap, _∙_}
 use mathlib.Core.Bool.{Bool, true, false}
-use mathlib.Core.List.{List}
 use contract.Lifetimes.{Lfts}
 use borrow.Fn.World.{ArgsD, ResD}
 use denote.Triple.Clauses.{AtExit}
 use denote.Ref.{now}
-use lib.ListN.{length}
 use Rattle.scope.specs.Refusals.{numberOf, placeOf}
-use Rattle.scope.specs.Frame.{Decoded}
-use Rattle.scope.specs.declared.Geometry.{Geometry}
-use Rattle.scope.specs.declared.Answer.{Answer}
-use Rattle.scope.specs.declared.Answer.the-variants.{Done}
-use Rattle.refusals.specs.Memory as memory
-use Rattle.refusals.proofs.Memory as memory-proofs
-use Rattle.decode.specs.Demand.{Call, answerTo, pictureFor, AsDefined, SameEnd, Accounted, LentAlike, Forgotten}
+use Rattle.refusals.specs.Memory.{Call, Allowed, Accounted, LentAlike, SameEnd, Forgotten}
+use Rattle.refusals.proofs.Memory.{demand-1}
+use Rattle.decode.specs.Demand.{AsDefined}
 use Rattle.decode.proofs.Once.{decode8-once, decode16-once}
 use Rattle.decode.proofs.decode8 as decode8
 use Rattle.decode.proofs.decode8.Reads as decode8-reads
@@ -49,49 +42,17 @@ call16 κs a r s = record {
   workspace₁ = now (s .1 .1 .1 .1 .0);
 }
 
--- a call that its contract allows
-abbrev Allowed : Bool → Call → Type 0
-Allowed deep c = Decoded deep (c .frame) (c .geometry) (c .lengths) (c .planes₀) (c .workspace₀) (c .answer) (c .planes₁) (c .workspace₁)
-
-abbrev outcome : (deep : Bool) (c : Call) → Allowed deep c → memory.Outcome deep (c .frame) (c .geometry) (c .lengths)
-outcome deep c h = record { planes₀ = c .planes₀; workspace₀ = c .workspace₀; answer = c .answer; planes₁ = c .planes₁; workspace₁ = c .workspace₁; allowed = h }
-
 -- ---- either entry
 
-account : (deep : Bool) (c : Call) → Allowed deep c → Accounted deep c
-account deep c h =
-    let o = memory-proofs.demand-1 .accounted deep (c .frame) (c .geometry) (c .lengths) (outcome deep c h) in
-    record { number = o .number; exact = o .exact; done = o .done; found = o .found; cleared = o .cleared }
-
 defined : (deep : Bool) (c : Call) → Allowed deep c → AsDefined deep c
-defined deep c h = record {
-  answer = h .answer;
-  number = ap numberOf (h .answer);
-  place = ap placeOf (h .answer);
-  planes = λ e. account deep c h .done (ap numberOf e) .0;
-  handed = λ e. (h .answer ∙ e, account deep c h .done (ap numberOf (h .answer ∙ e)) .0);
-}
-
--- what was lent alike may be called by one name
-alike : (deep : Bool) (f f′ : List ℕ) (g g′ : Geometry) (l l′ : List ℕ) → f ≡ f′ → g ≡ g′ → l ≡ l′
-    → (p w : List ℕ) (a : Answer) (p′ w′ : List ℕ) → Decoded deep f g l p w a p′ w′ → Decoded deep f′ g′ l′ p w a p′ w′
-alike deep f f′ g g′ l l′ ef eg el p w a p′ w′ h = rw (← ef, ← eg, ← el) h
-
-forget : (deep : Bool) (c d : Call) → Allowed deep c → Allowed deep d → LentAlike c d → Forgotten c d
-forget deep c d h k same =
-    let u : memory.Outcome deep (c .frame) (c .geometry) (c .lengths) = record {
-      planes₀ = d .planes₀;
-      workspace₀ = d .workspace₀;
-      answer = d .answer;
-      planes₁ = d .planes₁;
-      workspace₁ = d .workspace₁;
-      allowed = alike deep _ _ _ _ _ _ (sym (same .frame)) (sym (same .geometry)) (sym (same .lengths)) _ _ _ _ _ k;
-    } in
-    let f = memory-proofs.demand-1 .forgotten deep (c .frame) (c .geometry) (c .lengths) (outcome deep c h) u (same .planes) (same .workspace) in
+defined deep c h =
+    let done = demand-1 .accounted deep c h .done in
     record {
-      answers = f .answers;
-      done = λ e. record { answer = f .answers; planes = f .done e .0; workspace = f .done e .1 };
-      cleared = λ e. record { answer = f .answers; planes = f .cleared e .0; workspace = f .cleared e .1 };
+      answer = h .answer;
+      number = ap numberOf (h .answer);
+      place = ap placeOf (h .answer);
+      planes = λ e. done (ap numberOf e) .0;
+      handed = λ e. (h .answer ∙ e, done (ap numberOf (h .answer ∙ e)) .0);
     }
 
 -- ---- demand 1
@@ -114,10 +75,10 @@ pub record Demand1Functions : Type 1 where
 
 pub demand-1-functions : Demand1Functions
 demand-1-functions = record {
-  accounted8 = λ κs a r s p. account false (call8 κs a r s) p;
-  accounted16 = λ κs a r s p. account true (call16 κs a r s) p;
-  forgotten8 = λ κs κs′ a a′ r r′ s s′ p p′. forget false (call8 κs a r s) (call8 κs′ a′ r′ s′) p p′;
-  forgotten16 = λ κs κs′ a a′ r r′ s s′ p p′. forget true (call16 κs a r s) (call16 κs′ a′ r′ s′) p p′;
+  accounted8 = λ κs a r s p. demand-1 .accounted false (call8 κs a r s) p;
+  accounted16 = λ κs a r s p. demand-1 .accounted true (call16 κs a r s) p;
+  forgotten8 = λ κs κs′ a a′ r r′ s s′ p p′. demand-1 .forgotten false (call8 κs a r s) (call8 κs′ a′ r′ s′) p p′;
+  forgotten16 = λ κs κs′ a a′ r r′ s s′ p p′. demand-1 .forgotten true (call16 κs a r s) (call16 κs′ a′ r′ s′) p p′;
 }
 
 -- ---- demand 2

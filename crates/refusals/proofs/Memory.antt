@@ -15,7 +15,7 @@ use Rattle.scope.specs.declared.Place.{Place}
 use Rattle.scope.specs.declared.Answer.{Answer}
 use Rattle.scope.specs.declared.Answer.the-variants.{Done, Refused}
 use Rattle.refusals.specs.Rows.{Every}
-use Rattle.refusals.specs.Memory.{Outcome, Accounted, Forgotten, Demand1}
+use Rattle.refusals.specs.Memory.{Call, answerTo, pictureFor, Allowed, Accounted, LentAlike, SameEnd, Forgotten, Demand1}
 use Rattle.refusals.proofs.Rows.{every-answer}
 
 -- ---- no number above 15, and none that is 0
@@ -49,7 +49,7 @@ unfolding leftBy
 left-cleared Done found good h = absurd (omega (arith, h))
 left-cleared (Refused n p) found good h = rw (lt-leb n 4 h)
 
--- ---- one outcome
+-- ---- one call
 module _ (deep : Bool) (frame : List ℕ) (g : Geometry) (lengths planes₀ workspace₀ : List ℕ) (r : Answer) (planes₁ workspace₁ : List ℕ) (d : Decoded deep frame g lengths planes₀ workspace₀ r planes₁ workspace₁) where
   fine : Every Numbered r
   fine = rw (d .answer) (numbered deep frame g lengths (length planes₀) (length workspace₀))
@@ -74,43 +74,59 @@ module _ (deep : Bool) (frame : List ℕ) (g : Geometry) (lengths planes₀ work
   when-cleared h =
       (planes-are ∙ left-cleared r planes₀ (pictureOf frame g lengths) h, workspace-is ∙ left-cleared r workspace₀ (zeros workspace₀) h)
 
-module _ (deep : Bool) (frame : List ℕ) (g : Geometry) (lengths : List ℕ) where
-  account : (o : Outcome deep frame g lengths) → Accounted deep frame g lengths o
-  account o =
+account : (deep : Bool) (c : Call) → Allowed deep c → Accounted deep c
+account deep c h =
+    record {
+      number = number-small (c .answer) (fine deep (c .frame) (c .geometry) (c .lengths) _ _ _ _ _ h);
+      exact = h .answer;
+      done = when-done deep (c .frame) (c .geometry) (c .lengths) _ _ _ _ _ h;
+      found = when-found deep (c .frame) (c .geometry) (c .lengths) _ _ _ _ _ h;
+      cleared = when-cleared deep (c .frame) (c .geometry) (c .lengths) _ _ _ _ _ h;
+    }
+
+-- ---- two calls
+
+-- what is lent alike gets one answer and one picture
+one-answer : (deep : Bool) (f f′ : List ℕ) (g g′ : Geometry) (l l′ : List ℕ) (p p′ w w′ : ℕ) → f ≡ f′ → g ≡ g′ → l ≡ l′ → p ≡ p′ → w ≡ w′
+    → answerOf deep f g l p w ≡ answerOf deep f′ g′ l′ p′ w′
+one-answer deep f f′ g g′ l l′ p p′ w w′ ef eg el ep ew = rw (ef, eg, el, ep, ew) refl
+
+one-picture : (f f′ : List ℕ) (g g′ : Geometry) (l l′ : List ℕ) → f ≡ f′ → g ≡ g′ → l ≡ l′ → pictureOf f g l ≡ pictureOf f′ g′ l′
+one-picture f f′ g g′ l l′ ef eg el = rw (ef, eg, el) refl
+
+module _ (deep : Bool) (c d : Call) (h : Allowed deep c) (k : Allowed deep d) (same : LentAlike c d) where
+  same-answer : c .answer ≡ d .answer
+  same-answer =
+      h .answer ∙ one-answer deep _ _ _ _ _ _ _ _ _ _ (same .frame) (same .geometry) (same .lengths) (same .planes) (same .workspace) ∙ sym (k .answer)
+
+  same-number : numberOf (d .answer) ≡ numberOf (c .answer)
+  same-number = ap numberOf (sym same-answer)
+
+  same-picture : pictureFor c ≡ pictureFor d
+  same-picture = one-picture _ _ _ _ _ _ (same .frame) (same .geometry) (same .lengths)
+
+  forget : Forgotten c d
+  forget =
       record {
-        number = number-small (o .answer) (fine deep frame g lengths _ _ _ _ _ (o .allowed));
-        exact = o .allowed .answer;
-        done = when-done deep frame g lengths _ _ _ _ _ (o .allowed);
-        found = when-found deep frame g lengths _ _ _ _ _ (o .allowed);
-        cleared = when-cleared deep frame g lengths _ _ _ _ _ (o .allowed);
+        answers = same-answer;
+        done = λ e.
+            let a : (c .planes₁ ≡ pictureFor c) × (c .workspace₁ ≡ zeros (c .workspace₀)) = account deep c h .done e in
+            let b : (d .planes₁ ≡ pictureFor d) × (d .workspace₁ ≡ zeros (d .workspace₀)) = account deep d k .done (same-number ∙ e) in
+            record {
+              answer = same-answer;
+              planes = a .0 ∙ same-picture ∙ sym (b .0);
+              workspace = a .1 ∙ ap (λ (n : ℕ). replicate n 0) (same .workspace) ∙ sym (b .1);
+            };
+        cleared = λ l.
+            let m : 4 < numberOf (d .answer) = omega (arith, l, same-number) in
+            let a : (c .planes₁ ≡ zeros (c .planes₀)) × (c .workspace₁ ≡ zeros (c .workspace₀)) = account deep c h .cleared l in
+            let b : (d .planes₁ ≡ zeros (d .planes₀)) × (d .workspace₁ ≡ zeros (d .workspace₀)) = account deep d k .cleared m in
+            record {
+              answer = same-answer;
+              planes = a .0 ∙ ap (λ (n : ℕ). replicate n 0) (same .planes) ∙ sym (b .0);
+              workspace = a .1 ∙ ap (λ (n : ℕ). replicate n 0) (same .workspace) ∙ sym (b .1);
+            };
       }
-
-  -- ---- two outcomes
-  module _ (o u : Outcome deep frame g lengths) (ep : length (o .planes₀) ≡ length (u .planes₀)) (ew : length (o .workspace₀) ≡ length (u .workspace₀)) where
-    same-answer : o .answer ≡ u .answer
-    same-answer =
-        o .allowed .answer
-        ∙ ap (λ (n : ℕ). answerOf deep frame g lengths n (length (o .workspace₀))) ep
-        ∙ ap (λ (n : ℕ). answerOf deep frame g lengths (length (u .planes₀)) n) ew
-        ∙ sym (u .allowed .answer)
-
-    same-number : numberOf (u .answer) ≡ numberOf (o .answer)
-    same-number = ap numberOf (sym same-answer)
-
-    forget : Forgotten deep frame g lengths o u
-    forget =
-        record {
-          answers = same-answer;
-          done = λ e.
-              let a : (o .planes₁ ≡ pictureOf frame g lengths) × (o .workspace₁ ≡ zeros (o .workspace₀)) = account o .done e in
-              let b : (u .planes₁ ≡ pictureOf frame g lengths) × (u .workspace₁ ≡ zeros (u .workspace₀)) = account u .done (same-number ∙ e) in
-              (a .0 ∙ sym (b .0), a .1 ∙ ap (λ (n : ℕ). replicate n 0) ew ∙ sym (b .1));
-          cleared = λ h.
-              let k : 4 < numberOf (u .answer) = omega (arith, h, same-number) in
-              let a : (o .planes₁ ≡ zeros (o .planes₀)) × (o .workspace₁ ≡ zeros (o .workspace₀)) = account o .cleared h in
-              let b : (u .planes₁ ≡ zeros (u .planes₀)) × (u .workspace₁ ≡ zeros (u .workspace₀)) = account u .cleared k in
-              (a .0 ∙ ap (λ (n : ℕ). replicate n 0) ep ∙ sym (b .0), a .1 ∙ ap (λ (n : ℕ). replicate n 0) ew ∙ sym (b .1));
-        }
 
 -- Demand 1
 pub demand-1 : Demand1

@@ -1,5 +1,5 @@
--- Demand 1, of document 01's table: planes, or one of the numbered refusals; what lent memory holds after each; and that what it held before changes no
--- answer and, except after 1 to 4, nothing left in it. Put about any outcome that the statement of a frame entry allows
+-- Demand 1: planes, or one of the numbered refusals; what lent memory holds after each; and that what it held before changes no
+-- answer and, except after 1 to 4, nothing left in it. Put about any call that the statement of a frame entry allows
 -- (`Decoded`). Assumes nothing.
 use mathlib.Core.Path.{_≡_}
 use Prim.Native.Nat.{ℕ, _≤_, _<_}
@@ -12,37 +12,67 @@ use Rattle.scope.specs.Frame.{answerOf, pictureOf, Decoded}
 use Rattle.scope.specs.declared.Geometry.{Geometry}
 use Rattle.scope.specs.declared.Answer.{Answer}
 
--- an outcome of an entry: what was lent, what it answered, and what it left
-pub record Outcome (deep : Bool) (frame : List ℕ) (g : Geometry) (lengths : List ℕ) : Type 0 where
+-- a call of an entry: what was lent to it, as it was found, what it answered, and what it left
+pub record Call : Type 0 where
+  pub frame : List ℕ
+  pub geometry : Geometry
+  pub lengths : List ℕ
   pub planes₀ : List ℕ
   pub workspace₀ : List ℕ
   pub answer : Answer
   pub planes₁ : List ℕ
   pub workspace₁ : List ℕ
-  pub allowed : Decoded deep frame g lengths planes₀ workspace₀ answer planes₁ workspace₁
 
-module _ (deep : Bool) (frame : List ℕ) (g : Geometry) (lengths : List ℕ) where
-  -- one outcome
-  pub record Accounted (o : Outcome deep frame g lengths) : Type 0 where
-    -- no number but those of document 01's table, or 0 for planes
-    pub number : numberOf (o .answer) ≤ 15
-    -- the answer is the table's
-    pub exact : o .answer ≡ answerOf deep frame g lengths (length (o .planes₀)) (length (o .workspace₀))
-    -- success defines every sample, and leaves the workspace zero
-    pub done : numberOf (o .answer) ≡ 0 → (o .planes₁ ≡ pictureOf frame g lengths) × (o .workspace₁ ≡ zeros (o .workspace₀))
-    -- refusals 1 to 4 leave both as found
-    pub found : 0 < numberOf (o .answer) → numberOf (o .answer) ≤ 4 → (o .planes₁ ≡ o .planes₀) × (o .workspace₁ ≡ o .workspace₀)
-    -- any other leaves both wholly zero
-    pub cleared : 4 < numberOf (o .answer) → (o .planes₁ ≡ zeros (o .planes₀)) × (o .workspace₁ ≡ zeros (o .workspace₀))
+-- document 01's answer to it; `deep` says which entry it is
+abbrev pub answerTo : Bool → Call → Answer
+answerTo deep c = answerOf deep (c .frame) (c .geometry) (c .lengths) (length (c .planes₀)) (length (c .workspace₀))
 
-  -- two outcomes from memory of the same size, whatever it held
-  pub record Forgotten (o u : Outcome deep frame g lengths) : Type 0 where
-    pub answers : o .answer ≡ u .answer
-    pub done : numberOf (o .answer) ≡ 0 → (o .planes₁ ≡ u .planes₁) × (o .workspace₁ ≡ u .workspace₁)
-    pub cleared : 4 < numberOf (o .answer) → (o .planes₁ ≡ u .planes₁) × (o .workspace₁ ≡ u .workspace₁)
+-- the picture that document 01 defines for it
+abbrev pub pictureFor : Call → List ℕ
+pictureFor c = pictureOf (c .frame) (c .geometry) (c .lengths)
 
--- Demand 1
+-- a call that the entry's statement allows
+abbrev pub Allowed : Bool → Call → Type 0
+Allowed deep c = Decoded deep (c .frame) (c .geometry) (c .lengths) (c .planes₀) (c .workspace₀) (c .answer) (c .planes₁) (c .workspace₁)
+
+-- ---- one call
+
+pub record Accounted (deep : Bool) (c : Call) : Type 0 where
+  -- no number but those of document 01's table, or 0 for planes
+  pub number : numberOf (c .answer) ≤ 15
+  -- the answer is the table's
+  pub exact : c .answer ≡ answerTo deep c
+  -- success defines every sample, and leaves the workspace zero
+  pub done : numberOf (c .answer) ≡ 0 → (c .planes₁ ≡ pictureFor c) × (c .workspace₁ ≡ zeros (c .workspace₀))
+  -- refusals 1 to 4 leave both as found
+  pub found : 0 < numberOf (c .answer) → numberOf (c .answer) ≤ 4 → (c .planes₁ ≡ c .planes₀) × (c .workspace₁ ≡ c .workspace₀)
+  -- any other leaves both wholly zero
+  pub cleared : 4 < numberOf (c .answer) → (c .planes₁ ≡ zeros (c .planes₀)) × (c .workspace₁ ≡ zeros (c .workspace₀))
+
+-- ---- two calls
+
+-- they were lent the same frame, geometry and lengths, and memory of the same size, whatever it held
+pub record LentAlike (c d : Call) : Type 0 where
+  pub frame : c .frame ≡ d .frame
+  pub geometry : c .geometry ≡ d .geometry
+  pub lengths : c .lengths ≡ d .lengths
+  pub planes : length (c .planes₀) ≡ length (d .planes₀)
+  pub workspace : length (c .workspace₀) ≡ length (d .workspace₀)
+
+-- they end alike
+pub record SameEnd (c d : Call) : Type 0 where
+  pub answer : c .answer ≡ d .answer
+  pub planes : c .planes₁ ≡ d .planes₁
+  pub workspace : c .workspace₁ ≡ d .workspace₁
+
+-- what memory held before changes no answer and, except after 1 to 4, nothing left in it
+pub record Forgotten (c d : Call) : Type 0 where
+  pub answers : c .answer ≡ d .answer
+  pub done : numberOf (c .answer) ≡ 0 → SameEnd c d
+  pub cleared : 4 < numberOf (c .answer) → SameEnd c d
+
+-- ---- demand 1
+
 pub record Demand1 : Type 0 where
-  pub accounted : (deep : Bool) (frame : List ℕ) (g : Geometry) (lengths : List ℕ) (o : Outcome deep frame g lengths) → Accounted deep frame g lengths o
-  pub forgotten : (deep : Bool) (frame : List ℕ) (g : Geometry) (lengths : List ℕ) (o u : Outcome deep frame g lengths)
-      → length (o .planes₀) ≡ length (u .planes₀) → length (o .workspace₀) ≡ length (u .workspace₀) → Forgotten deep frame g lengths o u
+  pub accounted : (deep : Bool) (c : Call) → Allowed deep c → Accounted deep c
+  pub forgotten : (deep : Bool) (c d : Call) → Allowed deep c → Allowed deep d → LentAlike c d → Forgotten c d

@@ -109,47 +109,28 @@ fn dot(title: &[u8], p: u8, q: u8, r: u8) {
     show::print_workspace(b"; workspace", &workspace, 9);
 }
 
-// Words and lookup.
-fn words() {
+// Needs: one word fewer is refused.
+fn needs() {
     build(b"lengths all zero, 0 words lent: ", &[0u8; 256], 0, 1);
     build(b"lengths all zero, 1 word lent: ", &[0u8; 256], 1, 1);
     build(b"lengths 13 1, 4097 words lent: ", &[13, 1], 4097, 4098);
     build(b"lengths 13 1, 4098 words lent: ", &[13, 1], 4098, 4098);
     build(b"lengths 13 1, 4100 words lent: ", &[13, 1], 4100, 4098);
-    read(
-        b"lengths 13 1, bytes 00 04, 2 samples: ",
-        &[13, 1],
-        &[0x00, 0x04],
-        2,
-    );
-    read(
-        b"lengths 13 1, bytes 80 02, 3 samples: ",
-        &[13, 1],
-        &[0x80, 0x02],
-        3,
-    );
-    read(
-        b"lengths 13 1, bytes 00 08, 1 sample: ",
-        &[13, 1],
-        &[0x00, 0x08],
-        1,
-    );
-    read(
-        b"lengths 1 2 2, byte 8C, 4 samples: ",
-        &[1, 2, 2],
-        &[0x8c],
-        4,
-    );
-    read(
-        b"lengths 1 2 2, byte 8C, 6 samples: ",
-        &[1, 2, 2],
-        &[0x8c],
-        6,
-    );
+}
+
+// Words: under 13 1 they are thirteen zeros and 1, so that twelve zeros and a one begin none; under 1 2 2 the sixth sample comes from
+// past the end.
+fn words() {
+    read(b"lengths 13 1, bytes 00 04: ", &[13, 1], b"\x00\x04", 2);
+    read(b"lengths 13 1, bytes 80 02: ", &[13, 1], b"\x80\x02", 3);
+    read(b"lengths 13 1, bytes 00 08: ", &[13, 1], b"\x00\x08", 1);
+    read(b"lengths 1 2 2, byte 8C: ", &[1, 2, 2], b"\x8c", 4);
+    read(b"lengths 1 2 2, byte 8C: ", &[1, 2, 2], b"\x8c", 6);
 }
 
 // Whole frames.
 fn main() {
+    needs();
     words();
     gray(b"the frame of 46 bytes: ", &SMALL);
     gray(b"cut to 45 bytes: ", &SMALL[0..45]);

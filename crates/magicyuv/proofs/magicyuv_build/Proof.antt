@@ -7,7 +7,7 @@ build-requires : tie.Need-build-requires
 build-requires c κs = search needs
 
 reply-of-requires : tie.Need-reply-of-requires
-reply-of-requires c κs = search built-small
+reply-of-requires c κs = search (built-small, needs)
 
 same-length : tie.Need-same-length
 same-length c = search needs

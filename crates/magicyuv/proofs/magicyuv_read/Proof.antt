@@ -7,7 +7,7 @@ read-requires : tie.Need-read-requires
 read-requires c κs = search needs
 
 reply-of-requires : tie.Need-reply-of-requires
-reply-of-requires c κs = search reading-small
+reply-of-requires c κs = search (reading-small, needs)
 
 same-length : tie.Need-same-length
 same-length c = search needs

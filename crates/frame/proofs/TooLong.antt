@@ -65,7 +65,7 @@ module _ (deep : Bool) (frame : List ℕ) (g : Geometry) (lengths : List ℕ) (p
   -- refusal 9: "a length above 18", at its plane
   pub length-above-18 : LengthAbove18 deep frame g lengths planesLen workspaceLen p
   unfolding frm.lengthCheck
-  length-above-18 w s h = plane-answers w 9 (rw (some-long (lengthsOf g lengths p) s h))
+  length-above-18 w s h = plane-answers w 9 (rw (some-long (lengthsOf g lengths p) s (omega (arith, h))))
 
   -- refusal 10: "the plane's shares exceed one", at its plane
   pub shares-above-one : SharesAboveOne deep frame g lengths planesLen workspaceLen p

@@ -21,10 +21,7 @@ part-write-table-end : tie.Need-part-write-table-end
 part-write-table-end c = search needs
 
 write-table-requires : tie.Need-write-table-requires
-write-table-requires c κs =
-    let s = c .before .before .before in
-    let a = s .args in
-    part-ready (a .lengths .now) (a .workspace .now) (a .from) (a .to) (s .pre .0 .0) (s .pre .0 .1) (s .pre .0 .2) (s .pre .1 .0) (s .pre .1 .1) (s .pre .1 .2)
+write-table-requires c κs = search part-ready
 
 same-length : tie.Need-same-length
 same-length c = search needs

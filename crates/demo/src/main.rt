@@ -5,8 +5,8 @@
 mod codes;
 mod frames;
 
-use decode::decode8;
-use decode::decode16;
+use decode8::decode8;
+use decode16::decode16;
 use scope::Family;
 use scope::Geometry;
 use show::given::SMALL;

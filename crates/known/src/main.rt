@@ -1,7 +1,7 @@
 // Document 01's "Known answers" that are not proved together as one table (those are in scope's specs/Known.antt): each is run, and a
 // line says what it is, the answer, and what is left in the lent memory. Before each call the samples are 170 throughout and the
 // workspace 9, so that nothing printed can be what was there. The file stdout beside src/ was written by hand from document 01.
-use decode::decode8;
+use decode8::decode8;
 use scope::Answer;
 use scope::Family;
 use show::given::SMALL;

@@ -42,6 +42,6 @@ pub extern "C" fn magicyuv_decode16(
         depth,
         interlaced,
     );
-    let decoded = decode::decode16(frame, g, lengths, planes, workspace);
+    let decoded = decode16::decode16(frame, g, lengths, planes, workspace);
     crate::reply_of(decoded)
 }

@@ -133,7 +133,7 @@ pub extern "C" fn magicyuv_decode8(
         depth,
         interlaced,
     );
-    let decoded = decode::decode8(frame, g, lengths, planes, workspace);
+    let decoded = decode8::decode8(frame, g, lengths, planes, workspace);
     reply_of(decoded)
 }
 

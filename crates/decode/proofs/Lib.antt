@@ -1,4 +1,0 @@
-pub mod Filling
-pub mod Entry
-pub mod Once
-pub mod Demand

@@ -1,7 +1,8 @@
 // What the programs share: what they print, the tests that they print the outcome of (whether a stretch of memory holds one value
-// throughout), and what they lend (given). No contract can say which bytes reach standard output (the crate io's guide); those here say what
-// is handed back to the program.
+// throughout), and what they lend (given). No contract can say which bytes reach standard output (the crate io's guide): those here
+// say what is handed back to the program, and those of text what stands in a refusal's line before it is written.
 pub mod given;
+mod text;
 
 use scope::Answer;
 use scope::Place;
@@ -30,13 +31,11 @@ fn put_u16(sample: u16) {
     put_number(b" ", sample as u64);
 }
 
-// Writes where a refusal stands; nothing where it stands nowhere in particular.
-fn put_place(p: Place) {
-    match p {
-        Place::Slice(s) => put_number(b" at slice ", s as u64),
-        Place::Plane(q) => put_number(b" at plane ", q as u64),
-        Place::Nothing => {}
-    }
+// Writes a refusal's number and place, which stand in a line first.
+fn put_refusal(n: u32, p: Place) {
+    let mut line = [0u8; 60];
+    let end = text::put_refusal(&mut line, n, p);
+    put(&line[..end]);
 }
 
 // Writes an answer, as `refusal 12 at slice 0` or, where nothing is refused, the word for that, and gives its number in document
@@ -50,8 +49,7 @@ pub fn write_answer(done: &[u8], a: Answer) -> u32
             0
         }
         Answer::Refused(n, p) => {
-            put_number(b"refusal ", n as u64);
-            put_place(p);
+            put_refusal(n, p);
             n
         }
     }

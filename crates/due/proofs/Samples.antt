@@ -5,7 +5,7 @@ use mathlib.Core.List.{List}
 use Prim.Native.Nat.{ℕ, _+_, _*_, _-_, _≤_, _<_}
 use native.Mathlib.Omega.{arith}
 use borrow.Author.Needs.{needs}
-use borrow.Author.Tests.{eq-eqb, ne-eqb, lt-ltb, le-ltb}
+use borrow.Author.Tests.{eq-eqb, ne-eqb, lt-ltb, le-ltb, le-leb, lt-leb}
 use lib.ListN.{length, getD, set, replicate, length-replicate, getD-replicate}
 use Rattle.scope.specs.Base.{Step, listBelow}
 use Rattle.laws.proofs.Lists.{length-listFrom, getD-below}
@@ -89,12 +89,12 @@ module _ (number : ℕ) where
   word-planes h = rw (eq-eqb number 0 h)
 
   module _ (n0 : number ≡ 0 → ⊥) where
-    pub word-found : number < 5 → 2779096485 ≡ dueWord number
+    pub word-found : number ≤ 4 → 2779096485 ≡ dueWord number
     unfolding due.dueWord
-    word-found h = rw (ne-eqb number 0 n0, lt-ltb number 5 h)
+    word-found h = rw (ne-eqb number 0 n0, le-leb number 4 h)
 
-    pub word-zero : 5 ≤ number → 0 ≡ dueWord number
+    pub word-zero : 4 < number → 0 ≡ dueWord number
     unfolding due.dueWord
-    word-zero h = rw (ne-eqb number 0 n0, le-ltb number 5 h)
+    word-zero h = rw (ne-eqb number 0 n0, lt-leb number 4 h)
 
 pub ruleset dues = (due-planes, due-found, due-zero, word-planes, word-found, word-zero)

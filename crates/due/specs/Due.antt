@@ -4,7 +4,7 @@ use Prim.Native.Nat.{ℕ, zero, suc, _+_, _*_, _-_}
 use mathlib.Core.Bool.{Bool, true, false, cond, _&&_}
 use mathlib.Core.List.{List}
 use lib.ListN.{length, getD}
-use lib.Dec.{eqb, ltb}
+use lib.Dec.{eqb, ltb, leb}
 use Rattle.due.specs.declared.Told.{Told}
 use Rattle.due.specs.declared.Verdict.{Verdict}
 use Rattle.due.specs.declared.Verdict.the-variants.{Right, Number, Kind, Place, Samples, Words}
@@ -27,7 +27,7 @@ dueOf most stored number i = cond (eqb number 0) (stored i) (cond (ltb number 5)
 
 -- and in every word of the workspace, which is lent with 0xA5A5A5A5
 unfoldable pub dueWord : ℕ → ℕ
-dueWord number = cond (eqb number 0) 0 (cond (ltb number 5) 2779096485 0)
+dueWord number = cond (eqb number 0) 0 (cond (leb number 4) 2779096485 0)
 
 -- each of the first n elements is what is due
 unfoldable pub agrees : (ℕ → ℕ) → List ℕ → ℕ → Bool

@@ -78,7 +78,7 @@ pub fn due_word(number: u32) -> u32
     if number == 0 {
         return 0;
     }
-    if number < 5 {
+    if number <= 4 {
         return 2779096485;
     }
     0
@@ -174,13 +174,13 @@ pub fn sum_u16(planes: &[u16]) -> usize
     requires { ⌜ length (now planes) ≤ 65536 ⌝ }
     ensures { λ r. ⌜ r ≡ sumBelow (length (now (planes .entry))) (λ i. getD (now (planes .entry)) i 0) ⌝ }
 {
-    let mut sum = 0;
+    let mut total = 0;
     let mut i = 0;
     while i < planes.len() {
-        sum += wide_u16(planes[i]);
+        total += wide_u16(planes[i]);
         i += 1;
     }
-    sum
+    total
 }
 
 // ---- the verdict

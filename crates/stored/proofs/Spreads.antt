@@ -13,9 +13,10 @@ use Rattle.memory.specs.Loop.{turns}
 use Rattle.memory.specs.Loop.Turn.{on, off}
 use Rattle.memory.proofs.InPlace.{At, at-end, rebuilt-only, sweeps}
 use Rattle.memory.proofs.Loops.{Due, due-start, due-step, due-stop, due-end}
+use Rattle.stored.specs.declared.Lengths.{Lengths}
 use Rattle.stored.specs.declared.Lengths.the-variants.{Count, Damaged}
 use Rattle.stored.specs.Runs as spr
-use Rattle.stored.specs.Runs.{Lent, lent, runStep, spreadOf, outcome}
+use Rattle.stored.specs.Runs.{Lent, lent, runStep, spreadOf, outcome, filledIn}
 
 -- ---- one byte all over
 
@@ -55,6 +56,11 @@ module _ (case : List ℕ) (runs : ℕ) (xs₀ : List ℕ) where
     unfolding spr.outcome spr.spreadOf
     runs-end h = sym (due-end _ _ _ _ _ (w .due) h)
 
+    -- what is filled is in the memory
+    pub runs-within : filledIn (Count at) ≤ length xs
+    unfolding spr.filledIn
+    runs-within = w .room
+
     module _ (l : k < runs) (n v : ℕ) (en : n ≡ le32 case (64 + 8 * k)) (ev : v ≡ le32 case (68 + 8 * k)) where
       pub runs-room : length xs < at + n → outcome Damaged xs ≡ spreadOf case runs xs₀
       unfolding spr.outcome spr.spreadOf spr.runStep spr.runCount spr.runLength
@@ -86,4 +92,14 @@ module _ (case : List ℕ) (runs : ℕ) (xs₀ : List ℕ) where
           step : runStep case k (lent xs at) ≡ on (lent (putMid at (at + n - at) xs ys) (at + n))
           step = stepped case xs at k n v en ev m h ys (rw mid at e) size
 
-pub ruleset spreads = (runs-start, runs-end, runs-room, runs-byte, runs-step, needs)
+-- nothing is
+pub none-within : (xs : List ℕ) → filledIn Damaged ≤ length xs
+unfolding spr.filledIn
+none-within xs = omega arith
+
+-- so many lengths as are told are in the memory
+pub told-within : (r : Lengths) (n : ℕ) (xs : List ℕ) → filledIn r ≤ length xs → r ≡ Count n → n ≤ length xs
+unfolding spr.filledIn
+told-within r n xs h e = rw e at h
+
+pub ruleset spreads = (runs-within, none-within, runs-start, runs-end, runs-room, runs-byte, runs-step, needs)

@@ -42,3 +42,8 @@ spreadOf case runs lengths = turns (runStep case) runs 0 (lent lengths 0)
 unfoldable pub outcome : Lengths → List ℕ → Turn (List ℕ) Lent
 outcome (Count n) xs = on (lent xs n)
 outcome Damaged xs = off xs
+
+-- how many lengths an answer says there are
+unfoldable pub filledIn : Lengths → ℕ
+filledIn (Count n) = n
+filledIn Damaged = 0

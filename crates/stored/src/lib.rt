@@ -6,7 +6,7 @@ ghost use mathlib.Core.Path.{_≡_};
 ghost use Prim.Native.Nat.{_+_, _*_, _≤_};
 ghost use lib.ListN.{length, replicate};
 ghost use Rattle.stored.specs.Form.{headOf, blockAt, partsOf};
-ghost use Rattle.stored.specs.Runs.{spreadOf, outcome};
+ghost use Rattle.stored.specs.Runs.{spreadOf, outcome, filledIn};
 
 // How many cases a list has; or it does not begin as a list does; or a case of it needs more memory than there is.
 pub enum Head {
@@ -106,7 +106,8 @@ fn fill_u8(bytes: &mut [u8], v: u8)
 // The lengths that a case lends, run by run, at the front of the memory for them.
 pub fn spread(case: &[u8], runs: usize, lengths: &mut [u8]) -> Lengths
     requires { ⌜ 72 + 8 * runs ≤ length (now case) ⌝ }
-    ensures { λ r. ⌜ outcome r (now (lengths .exit)) ≡ spreadOf (now (case .entry)) runs (now (lengths .entry)) ⌝ }
+    ensures spread { λ r. ⌜ outcome r (now (lengths .exit)) ≡ spreadOf (now (case .entry)) runs (now (lengths .entry)) ⌝ }
+    ensures within { λ r. ⌜ filledIn r ≤ length (now (lengths .exit)) ⌝ }
 {
     let mut at = 0;
     let mut k = 0;

@@ -7,10 +7,10 @@ use Rattle.due.proofs.sum_u16.Statement.{statement}
 use Rattle.due.proofs.sum_u16.Tie as tie
 
 abbrev Inv-loop : tie.InvT-loop
-Inv-loop planes sum₀ i₀ sum i = Summed planes sum i
+Inv-loop planes total₀ i₀ total i = Summed planes total i
 
 abbrev μ-loop : tie.MeasureT-loop
-μ-loop planes sum₀ i₀ sum i = length planes - i
+μ-loop planes total₀ i₀ total i = length planes - i
 
 loop-holds : tie.Need-loop-holds Inv-loop μ-loop
 loop-holds c = search summing
@@ -24,8 +24,8 @@ shared-slice-read-wide-u16 c = search needs
 wide-u16-requires : tie.Need-wide-u16-requires Inv-loop μ-loop
 wide-u16-requires c κs = search needs
 
-add-sum : tie.Need-add-sum Inv-loop μ-loop
-add-sum c = search needs
+add-total : tie.Need-add-total Inv-loop μ-loop
+add-total c = search needs
 
 add-i : tie.Need-add-i Inv-loop μ-loop
 add-i c = search needs
@@ -49,7 +49,7 @@ sum-u16-spec =
     mul-wide-u16
     shared-slice-read-wide-u16
     wide-u16-requires
-    add-sum
+    add-total
     add-i
     loop-less
     loop-again

@@ -39,13 +39,13 @@ same-length : tie.Need-same-length Inv-loop μ-loop
 same-length c = search needs
 
 returns : tie.Need-returns Inv-loop μ-loop
-returns c = search spreads
+returns c = (search spreads, search spreads)
 
 same-length-2 : tie.Need-same-length-2 Inv-loop μ-loop
 same-length-2 c = search needs
 
 returns-2 : tie.Need-returns-2 Inv-loop μ-loop
-returns-2 c = search spreads
+returns-2 c = (search spreads, search spreads)
 
 add-fill-u8 : tie.Need-add-fill-u8 Inv-loop μ-loop
 add-fill-u8 c = search needs
@@ -86,7 +86,7 @@ same-length-3 : tie.Need-same-length-3 Inv-loop μ-loop
 same-length-3 c = search needs
 
 returns-3 : tie.Need-returns-3 Inv-loop μ-loop
-returns-3 c = search spreads
+returns-3 c = (search spreads, search spreads)
 
 pub spread-spec : {M : Type 1} → statement M
 spread-spec =

@@ -1,7 +1,7 @@
 -- What the program makes of a case, step by step: its numbers, the call on preset memory, the verdict and the sum.
 -- Assumes nothing.
 use mathlib.Core.Path.{_≡_, refl, sym, _∙_}
-use mathlib.Core.Bool.{Bool}
+use mathlib.Core.Bool.{Bool, true}
 use mathlib.Core.List.{List}
 use Prim.Native.Nat.{ℕ}
 use borrow.Author.Needs.{needs}
@@ -37,7 +37,7 @@ module _ (number expected bytes : ℕ) where
   unfolding rep.sized
   sized-planes h = rw (eq-eqb number 0 h)
 
-  pub sized-refused : (number ≡ 0 → ⊥) → eqb expected 0 ≡ sized number expected bytes
+  pub sized-refused : (number ≡ 0 → ⊥) → true ≡ sized number expected bytes
   unfolding rep.sized
   sized-refused h = rw (ne-eqb number 0 h)
 

@@ -1,7 +1,7 @@
 -- A stored case's numbers by their places (host/README.md, "The stored list"), and what the program shows of a reply.
 -- Assumes nothing.
 use Prim.Native.Nat.{ℕ}
-use mathlib.Core.Bool.{Bool, cond}
+use mathlib.Core.Bool.{Bool, true, cond}
 use mathlib.Core.List.{List}
 use lib.ListN.{length, getD}
 use lib.Dec.{eqb}
@@ -28,6 +28,6 @@ toldBy r = record { number = r .number; kind = r .kind; place = r .place }
 unfoldable pub sumLeft : ℕ → List ℕ → ℕ
 sumLeft number planes = cond (eqb number 0) (sumBelow (length planes) (λ i. getD planes i 0)) 0
 
--- as many expected bytes as the samples take after planes, and none after a refusal
+-- as many expected bytes as the samples take, where the stored answer is planes
 unfoldable pub sized : ℕ → ℕ → ℕ → Bool
-sized number expected bytes = cond (eqb number 0) (eqb expected bytes) (eqb expected 0)
+sized number expected bytes = cond (eqb number 0) (eqb expected bytes) true

@@ -63,7 +63,7 @@ fn print_replayed(i: usize, r: Replayed) -> bool {
 pub fn print_outcome(i: usize, o: Outcome) -> bool {
     match o {
         Outcome::Damaged => {
-            print_wrong(i, b"not a case that the memory fits");
+            print_wrong(i, b"not of the form, or larger than the memory");
             false
         }
         Outcome::Came(r) => print_replayed(i, r),

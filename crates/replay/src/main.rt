@@ -71,14 +71,14 @@ fn told_by(reply: Reply) -> Told
     }
 }
 
-// Whether there are as many expected bytes as the samples take after planes, and none after a refusal.
+// Whether there are as many expected bytes as the samples take, where the stored answer is planes.
 fn is_sized(number: u32, expected: usize, bytes: usize) -> bool
     ensures { λ r. ⌜ r ≡ sized number expected bytes ⌝ }
 {
     if number == 0 {
         return expected == bytes;
     }
-    expected == 0
+    true
 }
 
 // ---- the calls

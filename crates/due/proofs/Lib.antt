@@ -1,0 +1,4 @@
+pub mod Samples
+pub mod Agreeing
+pub mod Sums
+pub mod Verdicts

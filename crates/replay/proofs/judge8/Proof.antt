@@ -1,0 +1,42 @@
+-- `replay::judge8` meets its contract: the verdict is on the reply and on what is left. Assumes nothing.
+use Rattle.replay.proofs.Replays.{judged-is}
+use borrow.Author.Needs.{needs}
+use Rattle.replay.proofs.judge8.Statement.{statement}
+use Rattle.replay.proofs.judge8.Tie as tie
+
+stored-in-requires : tie.Need-stored-in-requires
+stored-in-requires c κs = search needs
+
+agree-u8-requires : tie.Need-agree-u8-requires
+agree-u8-requires c κs = search needs
+
+due-word-requires : tie.Need-due-word-requires
+due-word-requires c κs = search needs
+
+every-u32-requires : tie.Need-every-u32-requires
+every-u32-requires c κs = search needs
+
+told-by-requires : tie.Need-told-by-requires
+told-by-requires c κs = search needs
+
+judge-requires : tie.Need-judge-requires
+judge-requires c κs = search needs
+
+sum-left8-requires : tie.Need-sum-left8-requires
+sum-left8-requires c κs = search needs
+
+returns : tie.Need-returns
+returns c = (search judged-is, search needs)
+
+pub judge8-spec : {M : Type 1} → statement M
+judge8-spec =
+    tie.close
+    (tie.spec
+    stored-in-requires
+    agree-u8-requires
+    due-word-requires
+    every-u32-requires
+    told-by-requires
+    judge-requires
+    sum-left8-requires
+    returns)

@@ -1,0 +1,34 @@
+-- `replay::run16` meets its contract: the decoder is called on memory that was preset. Assumes nothing.
+use Rattle.replay.proofs.Replays.{called-with}
+use borrow.Author.Needs.{needs}
+use Rattle.replay.proofs.run16.Statement.{statement}
+use Rattle.replay.proofs.run16.Tie as tie
+
+preset-u16-requires : tie.Need-preset-u16-requires
+preset-u16-requires c κs = search needs
+
+preset-words-requires : tie.Need-preset-words-requires
+preset-words-requires c κs = search needs
+
+decode16-requires : tie.Need-decode16-requires
+decode16-requires c κs = search needs
+
+same-length : tie.Need-same-length
+same-length c = search needs
+
+same-length-2 : tie.Need-same-length-2
+same-length-2 c = search needs
+
+returns : tie.Need-returns
+returns c = search called-with
+
+pub run16-spec : {M : Type 1} → statement M
+run16-spec =
+    tie.close
+    (tie.spec
+    preset-u16-requires
+    preset-words-requires
+    decode16-requires
+    same-length
+    same-length-2
+    returns)

@@ -6,7 +6,7 @@ use Prim.Native.Nat.{ℕ, _+_, _*_, _-_, _≤_, _<_}
 use native.Mathlib.Omega.{arith}
 use borrow.Author.Needs.{needs}
 use borrow.Author.Tests.{eq-eqb, ne-eqb, lt-ltb, le-ltb, le-leb, lt-leb}
-use lib.ListN.{length, getD, set, replicate, length-replicate, getD-replicate}
+use lib.ListN.{length, getD, set}
 use Rattle.scope.specs.Base.{Step, listBelow}
 use Rattle.laws.proofs.Lists.{length-listFrom, getD-below}
 use Rattle.memory.proofs.InPlace.{At, at-step, at-end, rebuilt-only, sweeps}
@@ -50,17 +50,6 @@ module _ (most : ℕ) (stored : ℕ → ℕ) (xs s : List ℕ) (i : ℕ) (a : At
       (λ j l. getD-below (presetOf most stored) (length xs) j l))
 
 pub ruleset presets = (preset-step, preset-end, sweeps)
-
--- every word becomes v
-abbrev pub becomes : ℕ → Step
-becomes v i before x = v
-
-pub fill-end : (v : ℕ) (xs s : List ℕ) (i : ℕ) → At (becomes v) xs s i → length s ≤ i → s ≡ replicate (length xs) v
-fill-end v xs s i a h =
-    at-end (becomes v) xs s i a h
-    ∙ sym (rebuilt-only (becomes v) xs (replicate (length xs) v) (length-replicate _ _) (λ j l. getD-replicate (length xs) j v 0 l))
-
-pub ruleset filling = (fill-end, sweeps)
 
 -- a decoder that leaves a sample as it found it leaves another than the expected one: the largest number is odd
 pub preset-differs : (stored : ℕ → ℕ) (i k : ℕ) → stored i ≤ 2 * k + 1 → presetOf (2 * k + 1) stored i ≡ stored i → ⊥

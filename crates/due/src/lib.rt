@@ -51,10 +51,10 @@ pub fn preset_u16(expected: &[u8], planes: &mut [u16])
     requires { ⌜ length (now planes) ≤ 65536 ⌝ }
     ensures { λ _. ⌜ now (planes .exit) ≡ listBelow (length (now (planes .entry))) (presetOf 65535 (stored16 (now (expected .entry)))) ⌝ }
 {
-    let mut i = 0;
-    while i < planes.len() {
-        planes[i] = 65535 - sample_u16(expected, i);
-        i += 1;
+    let mut s = 0;
+    while s < planes.len() {
+        planes[s] = 65535 - sample_u16(expected, s);
+        s += 1;
     }
 }
 
@@ -175,10 +175,10 @@ pub fn sum_u16(planes: &[u16]) -> usize
     ensures { λ r. ⌜ r ≡ sumBelow (length (now (planes .entry))) (λ i. getD (now (planes .entry)) i 0) ⌝ }
 {
     let mut total = 0;
-    let mut i = 0;
-    while i < planes.len() {
-        total += wide_u16(planes[i]);
-        i += 1;
+    let mut p = 0;
+    while p < planes.len() {
+        total += wide_u16(planes[p]);
+        p += 1;
     }
     total
 }

@@ -9,10 +9,10 @@ use Rattle.due.proofs.preset_u16.Statement.{statement}
 use Rattle.due.proofs.preset_u16.Tie as tie
 
 abbrev Inv-loop : tie.InvT-loop
-Inv-loop expected planes₀ i₀ planes i = At (preset 65535 (stored16 expected)) planes₀ planes i × (length planes₀ ≤ 65536)
+Inv-loop expected planes₀ s₀ planes s = At (preset 65535 (stored16 expected)) planes₀ planes s × (length planes₀ ≤ 65536)
 
 abbrev μ-loop : tie.MeasureT-loop
-μ-loop expected planes₀ i₀ planes i = length planes₀ - i
+μ-loop expected planes₀ s₀ planes s = length planes₀ - s
 
 loop-holds : tie.Need-loop-holds Inv-loop μ-loop
 loop-holds c = search presets
@@ -29,8 +29,8 @@ mul-planes c = search needs
 slice-write-planes : tie.Need-slice-write-planes Inv-loop μ-loop
 slice-write-planes c = search needs
 
-add-i : tie.Need-add-i Inv-loop μ-loop
-add-i c = search needs
+add-s : tie.Need-add-s Inv-loop μ-loop
+add-s c = search needs
 
 loop-less : tie.Need-loop-less Inv-loop μ-loop
 loop-less c = search needs
@@ -55,7 +55,7 @@ preset-u16-spec =
     sub-planes
     mul-planes
     slice-write-planes
-    add-i
+    add-s
     loop-less
     loop-again
     same-length

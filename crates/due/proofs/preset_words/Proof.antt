@@ -2,7 +2,7 @@
 use Prim.Native.Nat.{_-_}
 use lib.ListN.{length}
 use Rattle.memory.proofs.InPlace.{At}
-use Rattle.due.proofs.Samples.{becomes, filling}
+use Rattle.stored.proofs.Spreads.{becomes, filling}
 use borrow.Author.Needs.{needs}
 use Rattle.due.proofs.preset_words.Statement.{statement}
 use Rattle.due.proofs.preset_words.Tie as tie

@@ -7,10 +7,10 @@ use Rattle.due.proofs.sum_u16.Statement.{statement}
 use Rattle.due.proofs.sum_u16.Tie as tie
 
 abbrev Inv-loop : tie.InvT-loop
-Inv-loop planes total₀ i₀ total i = Summed planes total i
+Inv-loop planes total₀ p₀ total p = Summed planes total p
 
 abbrev μ-loop : tie.MeasureT-loop
-μ-loop planes total₀ i₀ total i = length planes - i
+μ-loop planes total₀ p₀ total p = length planes - p
 
 loop-holds : tie.Need-loop-holds Inv-loop μ-loop
 loop-holds c = search summing
@@ -27,8 +27,8 @@ wide-u16-requires c κs = search needs
 add-total : tie.Need-add-total Inv-loop μ-loop
 add-total c = search needs
 
-add-i : tie.Need-add-i Inv-loop μ-loop
-add-i c = search needs
+add-p : tie.Need-add-p Inv-loop μ-loop
+add-p c = search needs
 
 loop-less : tie.Need-loop-less Inv-loop μ-loop
 loop-less c = search needs
@@ -50,7 +50,7 @@ sum-u16-spec =
     shared-slice-read-wide-u16
     wide-u16-requires
     add-total
-    add-i
+    add-p
     loop-less
     loop-again
     returns)

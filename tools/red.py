@@ -13,7 +13,7 @@ def fields(path):
     for line in open(path):
         for key in ("file", "old", "new"):
             if line.startswith(key + ": "):
-                out[key] = line[len(key) + 2:].strip()
+                out[key] = line[len(key) + 2:].rstrip("\n")
     return out
 
 def cell(text):
@@ -83,7 +83,7 @@ def tables(order):
         out.append(f"\n### `{crate}`\n\n| Edit | In | Was | Becomes | First thing said |\n|---|---|---|---|---|")
         for path in edits:
             f, label = fields(path), os.path.basename(path)[:-5]
-            was, now = changed(f["old"], f["new"])
+            was, now = changed(f["old"].strip(), f["new"].strip())
             out.append(f"| {label} | {f['file']} | `{cell(was)}` | `{cell(now)}` | {cell(said(crate, label))} |")
     return "\n".join(out) + "\n"
 

@@ -9,7 +9,6 @@ power-on test once did that) the right decoder passes, and most accepted cases p
 Usage, at the repository's root, after `rt check`: python3 tools/red_programs.py [WORD..], a word choosing the rows that have it in their name.
 Status 0 when every row is as it should be.
 """
-import os
 import re
 import shutil
 import subprocess
@@ -94,9 +93,12 @@ ROWS = [
 def said(text):
     """What a run says of itself: the words found in place of those expected, or the line of rt that tells the difference."""
     for line in text.splitlines():
-        if "FAIL" in line or "differ" in line:
-            return line.replace(os.getcwd(), "").strip()[:220]
-    return text.strip().splitlines()[-1][:220] if text.strip() else ""
+        m = re.match(r'on standard output, (at byte \d+), expected "(.*)", found "(.*)"', line)
+        if m:
+            return f"{m.group(1)} expected `{m.group(2)[:20]}`, found `{m.group(3)[:20]}`"
+        if "differ:" in line:
+            return line.strip()[:160]
+    return text.strip().splitlines()[-1][:160] if text.strip() else ""
 
 
 def run(name, edits, verb, program, must_fail):

@@ -4,7 +4,7 @@ use crate::Outcome;
 use crate::Replayed;
 use due::Verdict;
 
-pub fn put(text: &[u8]) {
+pub(crate) fn put(text: &[u8]) {
     io::write_all(1, text);
 }
 
@@ -60,7 +60,7 @@ fn print_replayed(i: usize, r: Replayed) -> bool {
     false
 }
 
-pub fn print_outcome(i: usize, o: Outcome) -> bool {
+pub(crate) fn print_outcome(i: usize, o: Outcome) -> bool {
     match o {
         Outcome::Damaged => {
             print_wrong(i, b"not of the form, or larger than the memory");
@@ -71,16 +71,16 @@ pub fn print_outcome(i: usize, o: Outcome) -> bool {
 }
 
 // The list ends within a case.
-pub fn print_cut(i: usize) {
+pub(crate) fn print_cut(i: usize) {
     print_wrong(i, b"the list ends within it");
 }
 
-pub fn print_more(n: usize) {
+pub(crate) fn print_more(n: usize) {
     put_number(b"", n as u64);
     put(b" bytes after the last case\n");
 }
 
-pub fn print_last(cases: usize, wrong: usize) {
+pub(crate) fn print_last(cases: usize, wrong: usize) {
     put_number(b"", cases as u64);
     put_number(b" cases, ", wrong as u64);
     put(b" wrong\n");

@@ -93,9 +93,9 @@ ROWS = [
 def said(text):
     """What a run says of itself: the words found in place of those expected, or the line of rt that tells the difference."""
     for line in text.splitlines():
-        m = re.match(r'on standard output, (at byte \d+), expected "(.*)", found "(.*)"', line)
+        m = re.match(r'on standard output, (at byte \d+), expected "([^"]{1,16}).*found "([^"]{1,16})', line)
         if m:
-            return f"{m.group(1)} expected `{m.group(2)[:20]}`, found `{m.group(3)[:20]}`"
+            return f"{m.group(1)} expected `{m.group(2)}`, found `{m.group(3)}`"
         if "differ:" in line:
             return line.strip()[:160]
     return text.strip().splitlines()[-1][:160] if text.strip() else ""

@@ -14,9 +14,9 @@ use lib.Seq.{getD-set-same, getD-set-other}
 use Rattle.scope.specs.Base.{one, count}
 use Rattle.scope.specs.Words.{longest, lengthOf, wordOf, first, heads}
 use Rattle.scope.specs.Lookup.{packed, wordIn}
-use Rattle.laws.proofs.Counts.{at-most-longest, count-next, one-same, one-other}
+use Rattle.codes.proofs.Counts.{at-most-longest, count-next, one-same, one-other}
 use Rattle.memory.proofs.Powers.{shl-one}
-use Rattle.laws.proofs.Table.{slot-hit, slot-miss}
+use Rattle.codes.proofs.Table.{slot-hit, slot-miss}
 use Rattle.words.specs.Weigh.{firstsOf}
 use Rattle.words.proofs.Walking.{firsts-at, firsts-length}
 use Rattle.builder.specs.Slots.{slotBits, slotBase, Filled, Row, Ready, Slotted}

@@ -9,12 +9,12 @@ use mathlib.Core.List.{List}
 use lib.Pow.{pow-pos, pow-add}
 use lib.ListN.{length}
 use Rattle.scope.specs.Words.{longest, lengthOf, wordOf, first, heads}
-use Rattle.laws.specs.Tiers.{end}
-use Rattle.laws.proofs.Counts.{at-most-longest}
-use Rattle.laws.proofs.Words.{first-le-word, word-lt-end, before-shorter}
-use Rattle.laws.proofs.Kraft.{word-fits}
-use Rattle.laws.proofs.Heads.{heads-first, need-small}
-use Rattle.laws.proofs.Table.{need-short, need-long}
+use Rattle.codes.specs.Tiers.{end}
+use Rattle.codes.proofs.Counts.{at-most-longest}
+use Rattle.codes.proofs.Words.{first-le-word, word-lt-end, before-shorter}
+use Rattle.codes.proofs.Kraft.{word-fits}
+use Rattle.codes.proofs.Heads.{heads-first, need-small}
+use Rattle.codes.proofs.Table.{need-short, need-long}
 use Rattle.builder.specs.Slots.{slotBits, Row, Ready}
 use Rattle.builder.proofs.Filling.{bits-first, base-first, bits-second, base-second}
 

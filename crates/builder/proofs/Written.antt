@@ -12,8 +12,8 @@ use Rattle.scope.specs.Base.{part}
 use Rattle.scope.specs.Words.{longest, shares, headBelow, heads, first, need}
 use Rattle.scope.specs.Lookup.{packed, wordIn, firstPart, tableOf}
 use Rattle.memory.proofs.Parts.{length-part}
-use Rattle.laws.proofs.Heads.{none-at-longest, first-head, no-head, no-head-short, first-small}
-use Rattle.laws.proofs.Table.{need-short, need-long, table-length, table-short, table-first, table-second}
+use Rattle.codes.proofs.Heads.{none-at-longest, first-head, no-head, no-head-short, first-small}
+use Rattle.codes.proofs.Table.{need-short, need-long, table-length, table-short, table-first, table-second}
 use Rattle.builder.specs.Slots.{Filled, Ready, Slotted}
 
 module _ (ls : List ℕ) (n : ℕ) (ok : Ready ls (longest ls) n) where

@@ -10,11 +10,11 @@ ghost use lib.ListN.{length};
 ghost use Rattle.scope.specs.Geometry.{planeCount, sliceCount, allSamples};
 ghost use Rattle.scope.specs.Frame.{readCheck, readChecks, wirePlane, pictureOf, restOf, Decoded};
 ghost use Rattle.scope.specs.declared.Answer.the-variants.{Done};
-ghost use Rattle.figures.specs.Sound.{Sound};
+ghost use Rattle.geometry.specs.Sound.{Sound};
 ghost use Rattle.layout.specs.Placed.{Placed};
 ghost use Rattle.tables.specs.Tables.{Tables, Coded};
 ghost use Rattle.planes.specs.Standing.{Planes};
-ghost use Rattle.filling.specs.Steps.{Checked, withSlice};
+ghost use Rattle.picture.specs.Steps.{Checked, withSlice};
 
 // Slice s, which is place k of plane p, into its part of the planes.
 fn place_slice_u8(
@@ -38,10 +38,10 @@ fn place_slice_u8(
     ensures answer { λ r. ⌜ r ≡ readCheck (now (frame .entry)) g (now (lengths .entry)) s ⌝ }
     ensures planes { λ r. ⌜ (r ≡ Done → now (planes .exit) ≡ withSlice (now (frame .entry)) g (now (lengths .entry)) s p k (now (planes .entry))) ⌝ }
 {
-    let at = figures::place_start(g, p, k);
-    let n = figures::place_samples(g, p, k);
+    let at = geometry::place_start(g, p, k);
+    let n = geometry::place_samples(g, p, k);
     let c = tables::code_of(codes, p);
-    reading::slice_u8(
+    slice::slice_u8(
         frame,
         g,
         lengths,
@@ -72,7 +72,7 @@ fn read_slices_u8(
     ensures answer { λ r. ⌜ r ≡ readChecks (now (frame .entry)) g (now (lengths .entry)) ⌝ }
     ensures planes { λ r. ⌜ (r ≡ Done → Planes g (wirePlane (now (frame .entry)) g (now (lengths .entry))) (now (planes .exit))) ⌝ }
 {
-    let t = figures::slice_count(g);
+    let t = geometry::slice_count(g);
     let mut seen = [0usize; 4];
     let mut s = 0;
     while s < t {
@@ -132,7 +132,7 @@ pub fn decode8(
 ) -> Answer
     ensures { λ r. ⌜ Decoded false (now (frame .entry)) g (now (lengths .entry)) (now (planes .entry)) (now (workspace .entry)) r (now (planes .exit)) (now (workspace .exit)) ⌝ }
 {
-    let a = lent::lent_checks(false, g, lengths.len(), planes.len());
+    let a = incoming::lent_checks(false, g, lengths.len(), planes.len());
     match a {
         Answer::Refused(n, w) => Answer::Refused(n, w), // 1 to 4: both are as found
         Answer::Done => {

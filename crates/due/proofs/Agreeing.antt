@@ -12,7 +12,7 @@ use borrow.Author.Tests.{eq-eqb, ne-eqb, eqb-true}
 use lib.Dec.{eqb}
 use lib.ListN.{length, getD}
 use Rattle.scope.specs.Base.{listBelow}
-use Rattle.laws.proofs.Lists.{listBelow-only}
+use Rattle.codes.proofs.Lists.{listBelow-only}
 use Rattle.due.specs.Due as spec
 use Rattle.due.specs.Due.{agrees}
 

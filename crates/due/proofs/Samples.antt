@@ -8,7 +8,7 @@ use borrow.Author.Needs.{needs}
 use borrow.Author.Tests.{eq-eqb, ne-eqb, lt-ltb, le-ltb, le-leb, lt-leb}
 use lib.ListN.{length, getD, set}
 use Rattle.scope.specs.Base.{Step, listBelow}
-use Rattle.laws.proofs.Lists.{length-listFrom, getD-below}
+use Rattle.codes.proofs.Lists.{length-listFrom, getD-below}
 use Rattle.memory.proofs.InPlace.{At, at-step, at-end, rebuilt-only, sweeps}
 use Rattle.due.specs.Due as due
 use Rattle.due.specs.Due.{stored8, stored16, presetOf, dueOf, dueWord}

@@ -23,9 +23,9 @@ use Rattle.words.specs.Weigh.{weighed, answerOf}
 use Rattle.words.specs.declared.Weighed.{Weighed}
 use Rattle.words.specs.declared.Weighed.the-variants.{Need, Refused}
 use Rattle.words.proofs.Weighing.{need-passes, need-is, weighed-check}
-use Rattle.figures.proofs.Places.{planes-most}
+use Rattle.geometry.proofs.Places.{planes-most}
 use Rattle.refusals.proofs.InOrder.{none-yet, one-passed, one-refused}
-use Rattle.figures.proofs.Lengths.{part-is}
+use Rattle.geometry.proofs.Lengths.{part-is}
 use Rattle.frame.specs.Words as wrd
 use Rattle.frame.specs.Words.{lengthsWeighed}
 

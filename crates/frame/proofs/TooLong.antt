@@ -16,7 +16,7 @@ use Rattle.scope.specs.Frame.{lengthCheck, answerOf}
 use Rattle.scope.specs.declared.Geometry.{Geometry}
 use Rattle.scope.specs.declared.Place.the-variants.{Plane}
 use Rattle.scope.specs.declared.Answer.the-variants.{Done, Refused}
-use Rattle.laws.proofs.Counts.{at-most-longest, longest-most}
+use Rattle.codes.proofs.Counts.{at-most-longest, longest-most}
 use Rattle.refusals.proofs.InOrder.{one-refused}
 use Rattle.frame.specs.TooLong.{Kept, Reached, LengthAbove18, SharesAboveOne}
 

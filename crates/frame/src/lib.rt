@@ -1,7 +1,7 @@
 // Document 01, "Refusal numbers", 5 to 14 before anything is written: one answer, from the frame, the geometry, the lengths and
 // the workspace's size alone.
-use figures::plane_count;
-use figures::symbol_count;
+use geometry::plane_count;
+use geometry::symbol_count;
 use layout::check_layout;
 use scope::Answer;
 use scope::Geometry;
@@ -16,7 +16,7 @@ ghost use lib.ListN.{length};
 ghost use Rattle.scope.specs.Geometry.{planeCount, lengthsOf};
 ghost use Rattle.scope.specs.Frame.{frameChecks};
 ghost use Rattle.scope.specs.declared.Answer.the-variants.{Done};
-ghost use Rattle.figures.specs.Sound.{Sound};
+ghost use Rattle.geometry.specs.Sound.{Sound};
 ghost use Rattle.layout.specs.Placed.{layoutChecks};
 ghost use Rattle.words.specs.Weigh.{weighed};
 ghost use Rattle.frame.specs.Words.{lengthsWeighed, wordChecks};

@@ -25,7 +25,7 @@ fn build_in(title: &[u8], lengths: &[u8], lent: usize, need: usize, workspace: &
     requires { ⌜ (lent ≤ length (now workspace)) × (need ≤ length (now workspace)) ⌝ }
 {
     io::write_all(1, title);
-    let a = table::build(lengths, &mut workspace[0..lent]);
+    let a = alone::build(lengths, &mut workspace[0..lent]);
     show::write_answer(b"built", a);
     match a {
         Answer::Refused(n, p) => {
@@ -53,7 +53,7 @@ fn read_in(
     samples: &mut [u16],
 ) {
     io::write_all(1, title);
-    show::write_answer(b"read", table::read(lengths, payload, workspace, samples));
+    show::write_answer(b"read", alone::read(lengths, payload, workspace, samples));
     show::write_samples_u16(b"; samples", samples);
     show::print_workspace(b"; workspace", workspace, 9);
 }

@@ -14,8 +14,8 @@ use Rattle.scope.specs.Layout as lay
 use Rattle.scope.specs.Layout.{le32, preambleStart, preambleEnd, countByte, sliceStart, sliceEnd}
 use Rattle.scope.specs.Frame as frm
 use Rattle.scope.specs.Frame.{preambleChecks, indexCheck}
-use Rattle.figures.specs.Sound.{Sound}
-use Rattle.figures.proofs.Places.{slice-count-some}
+use Rattle.geometry.specs.Sound.{Sound}
+use Rattle.geometry.proofs.Places.{slice-count-some}
 use Rattle.layout.specs.Placed as placed
 use Rattle.layout.specs.Placed.{layoutChecks}
 use Rattle.refusals.proofs.InOrder.{first-passed, then-passed, if-passed}

@@ -3,7 +3,7 @@
 -- nothing that restates them. Assumes nothing.
 use mathlib.Core.Path.{sym, _∙_}
 use contract.Lifetimes.{Lfts}
-use Rattle.figures.specs.Settled.{Settles}
+use Rattle.geometry.specs.Settled.{Settles}
 use borrow.Fn.World.{ArgsD}
 use Rattle.layout.proofs.wide as wide
 use Rattle.layout.proofs.wide.Reads as wide-reads

@@ -20,11 +20,11 @@ use Rattle.scope.specs.Frame.{indexCheck}
 use Rattle.scope.specs.declared.Geometry.{Geometry}
 use Rattle.scope.specs.declared.Place.the-variants.{Slice}
 use Rattle.scope.specs.declared.Answer.the-variants.{Done, Refused}
-use Rattle.figures.proofs.Counts.{all-full, sum-one-more, sum-none}
+use Rattle.geometry.proofs.Counts.{all-full, sum-one-more, sum-none}
 use Rattle.refusals.proofs.Rows.{index-below, index-room}
 use Rattle.refusals.proofs.InOrder.{none-yet, one-passed, one-refused, each-passed}
-use Rattle.figures.proofs.Four.{four-zeros}
-use Rattle.figures.proofs.Places.{planes-most}
+use Rattle.geometry.proofs.Four.{four-zeros}
+use Rattle.geometry.proofs.Places.{planes-most}
 
 -- the array of counts
 pub record Counted (frame : List ℕ) (g : Geometry) (seen : List ℕ) (s : ℕ) : Type 0 where

@@ -1,8 +1,8 @@
 // Document 01, "Layout": the named readers of a frame, through which alone it is read, and refusals 5 to 8: whether its entries
 // and its preamble are there, and whether every plane gets its K slices. Nothing is written.
-use figures::plane_count;
-use figures::slice_count;
-use figures::slices_per_plane;
+use geometry::plane_count;
+use geometry::slice_count;
+use geometry::slices_per_plane;
 use scope::Answer;
 use scope::Geometry;
 use scope::Place;
@@ -13,7 +13,7 @@ ghost use Rattle.scope.specs.Refusals.{inOrder};
 ghost use Rattle.scope.specs.Geometry.{sliceCount};
 ghost use Rattle.scope.specs.Layout.{le32, preambleStart, planeIndex, sliceStart, sliceEnd};
 ghost use Rattle.scope.specs.Frame.{preambleChecks, indexCheck};
-ghost use Rattle.figures.specs.Sound.{Sound};
+ghost use Rattle.geometry.specs.Sound.{Sound};
 ghost use Rattle.layout.specs.Placed.{layoutChecks};
 
 // ---- bytes

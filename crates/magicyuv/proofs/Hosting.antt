@@ -19,8 +19,8 @@ use Rattle.scope.specs.declared.Place.the-variants.{Nothing, Plane}
 use Rattle.scope.specs.declared.Answer.{Answer}
 use Rattle.scope.specs.declared.Answer.the-variants.{Done, Refused}
 use Rattle.refusals.proofs.Places.{place-small}
-use Rattle.figures.proofs.Places.{slice-count-most}
-use Rattle.lent.proofs.Refused.{lent-sound}
+use Rattle.geometry.proofs.Places.{slice-count-most}
+use Rattle.incoming.proofs.Refused.{lent-sound}
 use Rattle.scope.specs.Words.{tooLong, overfull, need, Chain, symbols, stuckAt, chain}
 use Rattle.scope.specs.Frame.{readable}
 use Rattle.scope.specs.Alone as aln

@@ -142,7 +142,7 @@ pub extern "C" fn magicyuv_decode8(
 pub extern "C" fn magicyuv_build(lengths: &[u8], workspace: &mut [u32]) -> Reply
     ensures { λ r. ⌜ BuiltFor (now (lengths .entry)) (now (workspace .entry)) r (now (workspace .exit)) ⌝ }
 {
-    let built = table::build(lengths, workspace);
+    let built = alone::build(lengths, workspace);
     reply_of(built)
 }
 
@@ -156,6 +156,6 @@ pub extern "C" fn magicyuv_read(
 ) -> Reply
     ensures { λ r. ⌜ ReadFor (now (lengths .entry)) (now (payload .entry)) (now (workspace .entry)) (now (samples .entry)) r (now (workspace .exit)) (now (samples .exit)) ⌝ }
 {
-    let read = table::read(lengths, payload, workspace, samples);
+    let read = alone::read(lengths, payload, workspace, samples);
     reply_of(read)
 }

@@ -17,9 +17,9 @@ use Rattle.scope.specs.Prediction.{plus}
 use Rattle.scope.specs.Frame as frm
 use Rattle.scope.specs.Frame.{wirePlane, bufferPlane, planesUpTo, pictureOf}
 use Rattle.scope.specs.declared.Geometry.{Geometry}
-use Rattle.figures.specs.Sound.{Sound}
-use Rattle.figures.proofs.Order.{Order, sum-upto, stretch-in}
-use Rattle.figures.proofs.Places.{order, sizes-alike, correlated-three}
+use Rattle.geometry.specs.Sound.{Sound}
+use Rattle.geometry.proofs.Order.{Order, sum-upto, stretch-in}
+use Rattle.geometry.proofs.Places.{order, sizes-alike, correlated-three}
 use Rattle.planes.specs.Standing.{Planes, withGreen, coloured}
 use Rattle.memory.proofs.Parts.{put-keeps}
 use Rattle.planes.proofs.Holds.{Holds, holds-put, holds-all}

@@ -15,7 +15,7 @@ use Rattle.scope.specs.Base.{part, replaced, sumBelow}
 use Rattle.scope.specs.Base as base
 use Rattle.scope.specs.Frame as frm
 use Rattle.scope.specs.Frame.{planesUpTo}
-use Rattle.figures.proofs.Order.{Order, sum-next, stretch-in}
+use Rattle.geometry.proofs.Order.{Order, sum-next, stretch-in}
 use Rattle.memory.proofs.Parts.{part-before, part-after, part-more, put-keeps}
 
 -- plane p holds xs p so far, so p samples long

@@ -14,7 +14,7 @@ use lib.Dec.{ltb, eqb}
 use lib.ListN.{length}
 use Rattle.scope.specs.Base as base
 use Rattle.scope.specs.Base.{part, replaced, sumBelow}
-use Rattle.figures.proofs.Order.{Order, stretch-in}
+use Rattle.geometry.proofs.Order.{Order, stretch-in}
 use Rattle.memory.proofs.Parts.{put-keeps}
 use Rattle.planes.proofs.Holds.{Holds, holds-more}
 

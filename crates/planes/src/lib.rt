@@ -5,7 +5,7 @@ use scope::Geometry;
 ghost use mathlib.Core.Path.{_≡_};
 ghost use lib.ListN.{length};
 ghost use Rattle.scope.specs.Geometry.{allSamples};
-ghost use Rattle.figures.specs.Sound.{Sound};
+ghost use Rattle.geometry.specs.Sound.{Sound};
 ghost use Rattle.planes.specs.Standing.{coloured};
 
 // G is the buffer's first plane; B' and R' are the next two.
@@ -16,8 +16,8 @@ pub fn add_green_u8(g: Geometry, planes: &mut [u8])
     ensures { λ _. ⌜ now (planes .exit) ≡ coloured g (now (planes .entry)) ⌝ }
 {
     let f = g.family;
-    if figures::is_correlated(f) {
-        let n = figures::plane_samples(g, 0);
+    if geometry::is_correlated(f) {
+        let n = geometry::plane_samples(g, 0);
         memory::add_u8(planes, 0, n, n);
         memory::add_u8(planes, 0, n + n, n);
     }
@@ -30,8 +30,8 @@ pub fn add_green_u16(g: Geometry, planes: &mut [u16])
     ensures { λ _. ⌜ now (planes .exit) ≡ coloured g (now (planes .entry)) ⌝ }
 {
     let family = g.family;
-    if figures::is_correlated(family) {
-        let n = figures::plane_samples(g, 0);
+    if geometry::is_correlated(family) {
+        let n = geometry::plane_samples(g, 0);
         memory::add_u16(planes, 0, n, n, g.depth);
         memory::add_u16(planes, 0, n + n, n, g.depth);
     }

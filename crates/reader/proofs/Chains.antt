@@ -10,8 +10,8 @@ use Rattle.scope.specs.Words.{longest, wordAt, Chain, symbols, stuckAt, _before
 use Rattle.scope.specs.Lookup.{lookupIn}
 use Rattle.scope.specs.declared.Found.{Found}
 use Rattle.scope.specs.declared.Found.the-variants.{Word, NoWord}
-use Rattle.laws.proofs.Words.{FoundIn, found-in}
-use Rattle.laws.proofs.Chains.{chain-same}
+use Rattle.codes.proofs.Words.{FoundIn, found-in}
+use Rattle.codes.proofs.Chains.{chain-same}
 use Rattle.reader.specs.Reading.{onward, positionAfter, reached, WordsRead, Readable}
 use Rattle.reader.specs.declared.Reached.the-variants.{End, Stuck}
 use Rattle.reader.proofs.Reading.{then}

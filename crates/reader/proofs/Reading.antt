@@ -15,7 +15,7 @@ use Rattle.scope.specs.Words.{Chain, symbols, stuckAt, _before_, onWord, chainB
 use Rattle.scope.specs.Lookup.{lookupIn}
 use Rattle.scope.specs.declared.Found.{Found}
 use Rattle.scope.specs.declared.Found.the-variants.{Word, NoWord}
-use Rattle.laws.proofs.Chains.{no-symbols}
+use Rattle.codes.proofs.Chains.{no-symbols}
 use Rattle.reader.specs.Reading.{onward, positionAfter, reached, WordsRead, Readable}
 use Rattle.reader.specs.Stepping.{behind, stepFrom}
 use Rattle.reader.specs.declared.Step.{Step}

@@ -3,7 +3,7 @@
 -- nothing that restates them. Assumes nothing.
 use mathlib.Core.Path.{_≡_, sym, _∙_}
 use contract.Lifetimes.{Lfts}
-use Rattle.figures.specs.Settled.{Settles}
+use Rattle.geometry.specs.Settled.{Settles}
 use borrow.Fn.World.{ArgsD, ResD}
 use denote.Triple.Clauses.{AtExit}
 use denote.Ref.{now}

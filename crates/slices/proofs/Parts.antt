@@ -14,9 +14,9 @@ use Rattle.scope.specs.Geometry.{planeCount, lengthsOf}
 use Rattle.scope.specs.Words as words
 use Rattle.scope.specs.Words.{shortest}
 use Rattle.scope.specs.declared.Geometry.{Geometry}
-use Rattle.figures.proofs.Places.{planes-most}
-use Rattle.figures.proofs.Lengths.{part-is, part-room, part-start-fits, part-end-fits, part-few}
-use Rattle.figures.proofs.Four.{four-zeros, entry-more, entry-none}
+use Rattle.geometry.proofs.Places.{planes-most}
+use Rattle.geometry.proofs.Lengths.{part-is, part-room, part-start-fits, part-end-fits, part-few}
+use Rattle.geometry.proofs.Four.{four-zeros, entry-more, entry-none}
 use Rattle.slices.specs.Sizes.{Shortests}
 
 -- what is found of plane p's part is found of plane p

@@ -24,7 +24,7 @@ use Rattle.scope.specs.declared.Geometry.{Geometry}
 use Rattle.scope.specs.declared.Place.the-variants.{Slice, Plane}
 use Rattle.scope.specs.declared.Answer.{Answer}
 use Rattle.scope.specs.declared.Answer.the-variants.{Done, Refused}
-use Rattle.figures.proofs.Places.{planes-most}
+use Rattle.geometry.proofs.Places.{planes-most}
 use Rattle.layout.specs.Placed.{Placed}
 use Rattle.refusals.proofs.InOrder.{first-passed, then-passed, if-passed, each-passed}
 use Rattle.slices.specs.Sizes as sizes

@@ -1,9 +1,9 @@
 // Document 01, "Refusal numbers", 12 to 14 before any slice is read: every slice in wire order, its bounds, its two bytes of
 // prefix, that its plane has words where it is coded, and its size. Nothing is written.
-use figures::place_samples;
-use figures::plane_count;
-use figures::slice_count;
-use figures::symbol_count;
+use geometry::place_samples;
+use geometry::plane_count;
+use geometry::slice_count;
+use geometry::symbol_count;
 use layout::byte_at;
 use layout::plane_index;
 use layout::slice_end;
@@ -21,7 +21,7 @@ ghost use Rattle.scope.specs.Layout.{preambleStart};
 ghost use Rattle.scope.specs.Words.{shorter, shortest};
 ghost use Rattle.scope.specs.Frame.{indexCheck, sliceCheck};
 ghost use Rattle.scope.specs.declared.Answer.the-variants.{Done};
-ghost use Rattle.figures.specs.Sound.{Sound};
+ghost use Rattle.geometry.specs.Sound.{Sound};
 ghost use Rattle.layout.specs.Placed.{Placed};
 ghost use Rattle.slices.specs.Sizes.{sizeCheck, Shortests};
 

@@ -24,14 +24,14 @@ use Rattle.scope.specs.Frame.{lengthCheck, needOfAll}
 use Rattle.scope.specs.declared.Geometry.{Geometry}
 use Rattle.scope.specs.declared.Place.{Place}
 use Rattle.scope.specs.declared.Answer.the-variants.{Done, Refused}
-use Rattle.laws.proofs.Table.{table-length}
+use Rattle.codes.proofs.Table.{table-length}
 use Rattle.words.specs.Weigh.{weighed}
 use Rattle.words.specs.declared.Weighed.{Weighed}
 use Rattle.words.specs.declared.Weighed.the-variants as weight
 use Rattle.words.proofs.Weighing.{need-is, need-passes, passes-need}
-use Rattle.figures.proofs.Places.{planes-most}
-use Rattle.figures.proofs.Four.{four-zeros, entry-more, entry-none, entry-four}
-use Rattle.figures.proofs.Lengths.{part-is, part-room, part-start-fits, part-end-fits, part-few}
+use Rattle.geometry.proofs.Places.{planes-most}
+use Rattle.geometry.proofs.Four.{four-zeros, entry-more, entry-none, entry-four}
+use Rattle.geometry.proofs.Lengths.{part-is, part-room, part-start-fits, part-end-fits, part-few}
 use Rattle.refusals.proofs.InOrder.{both-passed, each-passed}
 use Rattle.planes.proofs.Laid.{Laid, laid-start, laid-end, laid-room, laid-step}
 use Rattle.tables.specs.Tables.{planeNeed, tableStart, tablesUpTo, withTables, Tables, Coded}

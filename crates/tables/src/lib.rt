@@ -11,7 +11,7 @@ ghost use Rattle.scope.specs.Words.{longest, shares, need};
 ghost use Rattle.scope.specs.Lookup.{tableOf};
 ghost use Rattle.scope.specs.Frame.{lengthCheck, needOfAll};
 ghost use Rattle.scope.specs.declared.Answer.the-variants.{Done};
-ghost use Rattle.figures.specs.Sound.{Sound};
+ghost use Rattle.geometry.specs.Sound.{Sound};
 ghost use Rattle.tables.specs.Tables.{zero4, Tables, Coded, withTables};
 
 // Where each plane's table starts and ends in the workspace, and the plane's longest length; 0 for the planes that a family lacks.
@@ -84,7 +84,7 @@ fn build_plane(g: Geometry, lengths: &[u8], workspace: &mut [u32], p: usize, at:
     ensures table { λ _. ⌜ now (workspace .exit) ≡ replaced (now (workspace .entry)) at (need (lengthsOf g (now (lengths .entry)) p)) (tableOf (lengthsOf g (now (lengths .entry)) p)) ⌝ }
     ensures code { λ r. ⌜ (r .to ≡ at + need (lengthsOf g (now (lengths .entry)) p)) × (r .longest ≡ longest (lengthsOf g (now (lengths .entry)) p)) ⌝ }
 {
-    let n = figures::symbol_count(g.depth);
+    let n = geometry::symbol_count(g.depth);
     let a = p * n;
     build_at(&lengths[a..a + n], workspace, at)
 }
@@ -100,7 +100,7 @@ pub fn build_all(g: Geometry, lengths: &[u8], workspace: &mut [u32]) -> Codes
     ensures workspace { λ _. ⌜ now (workspace .exit) ≡ withTables g (now (lengths .entry)) (now (workspace .entry)) ⌝ }
 {
     let f = g.family;
-    let planes = figures::plane_count(f);
+    let planes = geometry::plane_count(f);
     let mut c = no_codes();
     let mut at = 0;
     let mut p = 0;

@@ -11,8 +11,8 @@ use lib.ListN.{length, take, getD, set, length-set, replicate, getD-replicate}
 use lib.Seq.{getD-set-same, getD-set-other, take-all, length-take-le}
 use Rattle.scope.specs.Base.{one, count, listBelow}
 use Rattle.scope.specs.Words.{longest}
-use Rattle.laws.proofs.Counts.{longest-next, count-next, count-le, one-same, one-other}
-use Rattle.laws.proofs.Lists.{listBelow-only, getD-below}
+use Rattle.codes.proofs.Counts.{longest-next, count-next, count-le, one-same, one-other}
+use Rattle.codes.proofs.Lists.{listBelow-only, getD-below}
 
 -- the longest so far
 pub longest-step : (ls : List ℕ) (i m : ℕ) → i < length ls → m ≡ longest (take i ls) → max m (getD ls i 0) ≡ longest (take (i + 1) ls)

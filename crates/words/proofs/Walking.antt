@@ -12,11 +12,11 @@ use lib.ListN.{length, getD, set, length-set, replicate}
 use lib.Seq.{getD-set-same, getD-set-other, ext-getD}
 use Rattle.scope.specs.Base.{count, listFrom}
 use Rattle.scope.specs.Words.{longest, shares, overfull, first}
-use Rattle.laws.specs.Tiers.{running, summed}
-use Rattle.laws.proofs.Lists.{getD-from, length-listFrom}
-use Rattle.laws.proofs.Heads.{none-at-longest}
-use Rattle.laws.proofs.Kraft.{over-none, over-some}
-use Rattle.laws.proofs.Accumulator.{running-start, accumulator-fits}
+use Rattle.codes.specs.Tiers.{running, summed}
+use Rattle.codes.proofs.Lists.{getD-from, length-listFrom}
+use Rattle.codes.proofs.Heads.{none-at-longest}
+use Rattle.codes.proofs.Kraft.{over-none, over-some}
+use Rattle.codes.proofs.Accumulator.{running-start, accumulator-fits}
 use Rattle.words.specs.Weigh.{firstsOf}
 
 -- ---- the first words

@@ -15,10 +15,10 @@ use Rattle.scope.specs.Frame.{lengthCheck}
 use Rattle.scope.specs.declared.Geometry.{Geometry}
 use Rattle.scope.specs.declared.Place.{Place}
 use Rattle.scope.specs.declared.Place.the-variants.{Plane}
-use Rattle.laws.proofs.Counts.{which}
+use Rattle.codes.proofs.Counts.{which}
 use Rattle.memory.proofs.Powers.{shl-one}
-use Rattle.laws.proofs.Heads.{need-first, need-small, first-small, second-small, none-at-longest}
-use Rattle.laws.proofs.Kraft.{none-over}
+use Rattle.codes.proofs.Heads.{need-first, need-small, first-small, second-small, none-at-longest}
+use Rattle.codes.proofs.Kraft.{none-over}
 use Rattle.words.specs.Weigh.{firstsOf, weighed, answerOf}
 use Rattle.words.specs.declared.Weighed.the-variants.{Need, Refused}
 use Rattle.words.proofs.Walking.{firsts-twelve}

@@ -1,5 +1,5 @@
 use Rattle.refusals.proofs.Outcomes.{out-early, out-late, out-done}
-use Rattle.filling.proofs.Entry.{lent-sound, lent-lengths, lent-planes, lent-deep}
+use Rattle.picture.proofs.Entry.{lent-sound, lent-lengths, lent-planes, lent-deep}
 use borrow.Author.Needs.{needs}
 use Rattle.decode16.proofs.decode16.Statement.{statement}
 use Rattle.decode16.proofs.decode16.Tie as tie

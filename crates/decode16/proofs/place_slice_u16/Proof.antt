@@ -1,4 +1,4 @@
-use Rattle.filling.proofs.Filling.{plane-four, table-there, place-in, place-sliced, place-with}
+use Rattle.picture.proofs.Filling.{plane-four, table-there, place-in, place-sliced, place-with}
 use borrow.Author.Needs.{needs}
 use Rattle.decode16.proofs.place_slice_u16.Statement.{statement}
 use Rattle.decode16.proofs.place_slice_u16.Tie as tie

@@ -1,5 +1,5 @@
 use Rattle.refusals.proofs.Outcomes.{out-early, out-late, out-done}
-use Rattle.filling.proofs.Entry.{lent-sound, lent-lengths, lent-planes, lent-8}
+use Rattle.picture.proofs.Entry.{lent-sound, lent-lengths, lent-planes, lent-8}
 use borrow.Author.Needs.{needs}
 use Rattle.decode8.proofs.decode8.Statement.{statement}
 use Rattle.decode8.proofs.decode8.Tie as tie

@@ -1,4 +1,4 @@
-use Rattle.filling.proofs.Filling.{plane-four, table-there, place-in, place-sliced, place-with}
+use Rattle.picture.proofs.Filling.{plane-four, table-there, place-in, place-sliced, place-with}
 use borrow.Author.Needs.{needs}
 use Rattle.decode8.proofs.place_slice_u8.Statement.{statement}
 use Rattle.decode8.proofs.place_slice_u8.Tie as tie

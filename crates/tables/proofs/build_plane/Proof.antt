@@ -1,5 +1,5 @@
 use Rattle.tables.proofs.Laying.{lends, part-short, part-full, part-need, part-table, part-to, part-longest}
-use Rattle.figures.proofs.Lengths.{part-few}
+use Rattle.geometry.proofs.Lengths.{part-few}
 use borrow.Author.Needs.{needs}
 use Rattle.tables.proofs.build_plane.Statement.{statement}
 use Rattle.tables.proofs.build_plane.Tie as tie

@@ -2,7 +2,7 @@
 use Prim.Native.Nat.{_≤_, _-_}
 use native.Mathlib.Omega.{arith}
 use lib.ListN.{length, getD}
-use Rattle.laws.proofs.Counts.{at-most-longest}
+use Rattle.codes.proofs.Counts.{at-most-longest}
 use Rattle.words.proofs.Counting.{Counted, counted-start, counted-small, counted-step, counted-end}
 use Rattle.words.proofs.counts.Statement.{statement}
 use Rattle.words.proofs.counts.Tie as tie

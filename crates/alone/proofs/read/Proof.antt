@@ -1,0 +1,50 @@
+-- `read` answers and leaves what a reading by itself does (document 01, "Words and lookup").
+use borrow.Author.Needs.{needs}
+use Rattle.alone.proofs.Reading.{readings}
+use Rattle.alone.proofs.read.Statement.{statement}
+use Rattle.alone.proofs.read.Tie as tie
+
+returns : tie.Need-returns
+returns c = search readings
+
+build-requires : tie.Need-build-requires
+build-requires c κs = search needs
+
+enum-known-n : tie.Need-enum-known-n
+enum-known-n c = search needs
+
+enum-told : tie.Need-enum-told
+enum-told c = search needs
+
+read-built-requires : tie.Need-read-built-requires
+read-built-requires c κs = search readings
+
+same-length : tie.Need-same-length
+same-length c = search needs
+
+returns-2 : tie.Need-returns-2
+returns-2 c = search readings
+
+same-length-2 : tie.Need-same-length-2
+same-length-2 c = search needs
+
+same-length-3 : tie.Need-same-length-3
+same-length-3 c = search needs
+
+returns-3 : tie.Need-returns-3
+returns-3 c = search readings
+
+pub read-spec : {M : Type 1} → statement M
+read-spec =
+    tie.close
+    (tie.spec
+    returns
+    build-requires
+    enum-known-n
+    enum-told
+    read-built-requires
+    same-length
+    returns-2
+    same-length-2
+    same-length-3
+    returns-3)

@@ -1,0 +1,58 @@
+-- `read_built` reads by a table that is built, and clears (document 01, "Words and lookup").
+use borrow.Author.Needs.{needs}
+use Rattle.alone.proofs.Reading.{readings}
+use Rattle.alone.proofs.read_built.Statement.{statement}
+use Rattle.alone.proofs.read_built.Tie as tie
+
+longest-of-requires : tie.Need-longest-of-requires
+longest-of-requires c κs = search needs
+
+words-u16-requires : tie.Need-words-u16-requires
+words-u16-requires c κs = search readings
+
+clear-u32-requires : tie.Need-clear-u32-requires
+clear-u32-requires c κs = search needs
+
+enum-known-reached : tie.Need-enum-known-reached
+enum-known-reached c = search needs
+
+enum-known-reached-2 : tie.Need-enum-known-reached-2
+enum-known-reached-2 c = search needs
+
+clear-u16-requires : tie.Need-clear-u16-requires
+clear-u16-requires c κs = search needs
+
+same-length : tie.Need-same-length
+same-length c = search needs
+
+same-length-2 : tie.Need-same-length-2
+same-length-2 c = search needs
+
+returns : tie.Need-returns
+returns c = search readings
+
+same-length-3 : tie.Need-same-length-3
+same-length-3 c = search needs
+
+same-length-4 : tie.Need-same-length-4
+same-length-4 c = search needs
+
+returns-2 : tie.Need-returns-2
+returns-2 c = search readings
+
+pub read-built-spec : {M : Type 1} → statement M
+read-built-spec =
+    tie.close
+    (tie.spec
+    longest-of-requires
+    words-u16-requires
+    clear-u32-requires
+    enum-known-reached
+    enum-known-reached-2
+    clear-u16-requires
+    same-length
+    same-length-2
+    returns
+    same-length-3
+    same-length-4
+    returns-2)

@@ -1,0 +1,264 @@
+-- What the functions on a geometry's numbers return, and that nothing runs over: the steps of src/lib.rt over plain numbers
+-- (document 01, "Layout"). Assumes nothing.
+use mathlib.Core.Path.{_≡_, refl}
+use mathlib.Core.Bool.{Bool, true, false, cond}
+use Prim.Native.Nat.{ℕ, zero, suc, _+_, _-_, _*_, _%_, _^_, _≤_, _<_, min}
+use native.Mathlib.Nat.{mul-le-mul}
+use native.Mathlib.Numerals.{add-one}
+use native.Mathlib.Omega.{arith}
+use mir.Syntax.{w64}
+use mir.Val.{Fits}
+use borrow.Author.Tests.{ne-eqb}
+use borrow.Author.Needs.{needs}
+use lib.Dec.{eqb}
+use lib.Pow.{pow-mono, pow-pos}
+use Rattle.memory.proofs.Powers.{shl-one}
+use Rattle.scope.specs.Base as base
+use Rattle.scope.specs.Base.{sumBelow}
+use Rattle.scope.specs.Geometry as geo
+use Rattle.scope.specs.Geometry.{subsampled, correlated, planeCount, slicesPerPlane, small, planeWidth, planeHeight, planeSliceHeight, firstRow, rowsAt, planeSamples, allSamples, swapped, orderOf, planeStart, rowStart}
+use Rattle.scope.specs.declared.Geometry.{Geometry}
+use Rattle.geometry.specs.Sound.{Sound}
+use Rattle.geometry.proofs.Places.{part-some, part-most, height-fits, planes-most, planes-some, place-in, order}
+
+-- ---- sides
+
+module _ (g : Geometry) (p : ℕ) (r : Bool) (e : r ≡ subsampled (g .family)) where
+  -- plane 1 of a subsampled family
+  pub small-one : r ≡ true → p ≡ 1 → true ≡ small g p
+  unfolding geo.small
+  small-one t k = rw (← e, t, k)
+
+  -- plane 2, and no other
+  pub small-two : r ≡ true → (p ≡ 1 → ⊥) → eqb p 2 ≡ small g p
+  unfolding geo.small
+  small-two t k = rw (← e, t, ne-eqb p 1 k)
+
+  -- no plane of another family
+  pub small-no : r ≡ false → false ≡ small g p
+  unfolding geo.small
+  small-no t = rw (← e, t)
+
+-- a number by a test that was called, and found true or false
+pub told-yes : (t r : Bool) (x y : ℕ) → r ≡ t → r ≡ true → x ≡ cond t x y
+told-yes t r x y e h = rw (← e, h)
+
+-- the same, found false
+pub told-no : (t r : Bool) (x y : ℕ) → r ≡ t → r ≡ false → y ≡ cond t x y
+told-no t r x y e h = rw (← e, h)
+
+-- by a test that the code makes itself
+pub test-yes : (t : Bool) (x y : ℕ) → t ≡ true → x ≡ cond t x y
+test-yes t x y h = rw h
+
+-- the same, found false
+pub test-no : (t : Bool) (x y : ℕ) → t ≡ false → y ≡ cond t x y
+test-no t x y h = rw h
+
+pub ruleset sides = (small-one, small-two, small-no, told-yes, told-no, test-yes, test-no, part-some, part-most, needs)
+
+-- ---- products of numbers that have a cap
+
+-- a product of numbers that have a cap has one
+pub product-most : (x y n m : ℕ) → x ≤ n → y ≤ m → x * y ≤ n * m
+product-most x y n m h k = mul-le-mul h k
+
+-- of two sides: at most 268,435,456
+pub samples-most : (x y : ℕ) → x ≤ 16384 → y ≤ 16384 → x * y ≤ 268435456
+samples-most x y h k = product-most x y 16384 16384 h k
+
+-- so it fits 64 bits
+pub samples-fit : (x y : ℕ) → x ≤ 16384 → y ≤ 16384 → Fits w64 (x * y)
+samples-fit x y h k = record { fits = omega (arith, samples-most x y h k) }
+
+-- a plane's samples are its sides' product
+pub samples-are : (g : Geometry) (p w h : ℕ) → w ≡ planeWidth g p → h ≡ planeHeight g p → w * h ≡ planeSamples g p
+unfolding geo.planeSamples
+samples-are g p w h a b = rw (a, b)
+
+-- equals multiplied are equal
+pub product-are : (x y a b : ℕ) → x ≡ a → y ≡ b → x * y ≡ a * b
+product-are x y a b e f = rw (e, f)
+
+-- ---- 2^depth
+
+module _ (depth : ℕ) (h : depth ≤ 14) where
+  power-small : 2 ^ depth ≤ 16384
+  power-small = pow-mono h
+
+  -- a shifted 1 is 2^depth
+  pub power-is : 1 * 2 ^ depth % 2 ^ 64 ≡ 2 ^ depth
+  power-is = shl-one 64 depth (omega (arith, h))
+
+  -- which is at least 1
+  pub power-some : 1 ≤ 1 * 2 ^ depth % 2 ^ 64
+  power-some = rw power-is (pow-pos depth)
+
+  -- and at most 16,384
+  pub power-most : 1 * 2 ^ depth % 2 ^ 64 ≤ 16384
+  power-most = rw power-is power-small
+
+pub ruleset powers = (power-is, power-some, power-most, needs)
+
+-- ---- the order of the planes
+
+module _ (g : Geometry) (p : ℕ) (r : Bool) (e : r ≡ correlated (g .family)) where
+  -- plane 0 goes to place 1
+  pub swap-zero : r ≡ true → p ≡ 0 → 1 ≡ orderOf g p
+  unfolding geo.swapped
+  swap-zero t k = rw (← e, t, k)
+
+  -- plane 1 goes to place 0
+  pub swap-one : r ≡ true → p ≡ 1 → 0 ≡ orderOf g p
+  unfolding geo.swapped
+  swap-one t k = rw (← e, t, k)
+
+  -- a family that is not correlated keeps its order
+  pub swap-no : r ≡ false → p ≡ orderOf g p
+  unfolding geo.swapped
+  swap-no t = rw (← e, t)
+
+  keeps : (p : ℕ) → (p ≡ 0 → ⊥) → (p ≡ 1 → ⊥) → p ≡ swapped true p
+  unfolding geo.swapped
+  keeps zero a b = omega (arith, a refl)
+  keeps (suc zero) a b = omega (arith, b refl)
+  keeps (suc (suc p)) a b = refl
+
+  -- and so do the planes past 1
+  pub swap-more : r ≡ true → (p ≡ 0 → ⊥) → (p ≡ 1 → ⊥) → p ≡ orderOf g p
+  swap-more t a b = rw (← e, t) (keeps p a b)
+
+pub ruleset swaps = (swap-zero, swap-one, swap-no, swap-more)
+
+-- ---- sums of planes
+
+module _ (g : Geometry) where
+  -- no planes, no samples
+  pub below-none : 0 ≡ sumBelow 0 (planeSamples g)
+  unfolding base.sumBelow
+  below-none = refl
+
+  -- one plane more
+  pub below-more : (at b r : ℕ) → at ≡ sumBelow b (planeSamples g) → r ≡ planeSamples g b → at + r ≡ sumBelow (b + 1) (planeSamples g)
+  unfolding base.sumBelow
+  below-more at b r e h = rw (add-one, e, h)
+
+  -- all n of them
+  pub below-all : (at b n : ℕ) → at ≡ sumBelow b (planeSamples g) → b ≤ n → n ≤ b → at ≡ sumBelow n (planeSamples g)
+  below-all at b n e h k =
+      let z : b ≡ n = omega arith in
+      rw (← z) e
+
+  -- at most 268,435,456 each
+  pub below-most : (at b n : ℕ) → at ≤ b * 268435456 → b ≤ n → at ≤ n * 268435456
+  below-most at b n h k = omega arith
+
+  -- at most four planes
+  pub few-planes : (q : ℕ) → q ≡ planeCount g → q ≤ 4
+  few-planes q e = rw e (planes-most (g .family))
+
+  -- the sum over all planes is all samples
+  pub all-are : (r q : ℕ) → q ≡ planeCount g → r ≡ sumBelow q (planeSamples g) → r ≡ allSamples g
+  unfolding geo.allSamples
+  all-are r q e h = rw (← e) h
+
+  -- which are at most 1,073,741,824
+  pub all-most : (r q : ℕ) → q ≡ planeCount g → r ≤ q * 268435456 → r ≤ 1073741824
+  all-most r q e h = omega (arith, few-planes q e)
+
+  module _ (p q : ℕ) (e : q ≡ orderOf g p) (l : p < planeCount g) where
+    -- a plane's place in the buffer is at most 3
+    pub order-most : q ≤ 3
+    order-most = rw e (omega (arith, order g .among p l, planes-most (g .family)))
+
+    -- so at most four planes are summed
+    pub order-few : q ≤ 4
+    order-few = omega (arith, order-most)
+
+    -- the planes before that place end where the plane starts
+    pub start-is : (r : ℕ) → r ≡ sumBelow q (planeSamples g) → r ≡ planeStart g p
+    unfolding geo.planeStart
+    start-is r h = rw (← e) h
+
+    -- at most 805,306,368 samples from the front
+    pub start-most : (r : ℕ) → r ≤ q * 268435456 → r ≤ 805306368
+    start-most r h = omega (arith, order-most)
+
+pub ruleset sums = (below-none, below-more, below-all, below-most, few-planes, all-are, all-most, order-few, start-is, start-most, needs)
+
+-- ---- rows
+
+module _ (g : Geometry) (p row at w : ℕ) (ok : Sound g) (lh : row ≤ planeHeight g p) (lw : w ≤ 16384) where
+  row-cap : row ≤ 16384
+  row-cap = omega (arith, height-fits g ok p .1)
+
+  -- the rows before a row fit 64 bits
+  pub row-fits : Fits w64 (row * w)
+  row-fits = samples-fit row w row-cap lw
+
+  -- and so does where it starts
+  pub row-adds : at ≤ 805306368 → Fits w64 (at + row * w)
+  row-adds l = record { fits = omega (arith, samples-most row w row-cap lw) }
+
+  -- which is at most 1,073,741,824
+  pub row-most : at ≤ 805306368 → at + row * w ≤ 1073741824
+  row-most l = omega (arith, samples-most row w row-cap lw)
+
+-- that many rows past the plane's start
+pub row-is : (g : Geometry) (p row at w : ℕ) → at ≡ planeStart g p → w ≡ planeWidth g p → at + row * w ≡ rowStart g p row
+unfolding geo.rowStart
+row-is g p row at w e f = rw (e, f)
+
+pub ruleset rows = (row-fits, row-adds, row-most, row-is, needs)
+
+-- ---- slices
+
+-- T fits 64 bits
+pub count-fits : (g : Geometry) (p k : ℕ) → p ≡ planeCount g → k ≤ 16384 → Fits w64 (p * k)
+count-fits g p k e h = record { fits = omega (arith, product-most p k 4 16384 (few-planes g p e) h) }
+
+-- T is at most 65,536
+pub count-most : (g : Geometry) (p k : ℕ) → p ≡ planeCount g → k ≤ 16384 → p * k ≤ 65536
+count-most g p k e h = product-most p k 4 16384 (few-planes g p e) h
+
+-- T is at least 1
+pub count-some : (g : Geometry) (p k : ℕ) → p ≡ planeCount g → 1 ≤ k → 1 ≤ p * k
+count-some g p k e h = rw e (mul-le-mul (planes-some (g .family)) h)
+
+module _ (g : Geometry) (p k b : ℕ) (ok : Sound g) (lk : k < slicesPerPlane g) (eb : b ≡ planeSliceHeight g p) where
+  -- the place's first row
+  pub first-in : k * b ≤ planeHeight g p
+  first-in = rw eb (omega (arith, place-in g ok p k lk))
+
+  -- the place's first row fits 64 bits
+  pub first-fits : Fits w64 (k * b)
+  first-fits = record { fits = omega (arith, first-in, height-fits g ok p .1) }
+
+  -- and is where the place starts
+  pub first-start : (r : ℕ) → r ≡ rowStart g p (k * b) → r ≡ rowStart g p (firstRow g p k)
+  first-start r e = rw (← eb) e
+
+  module _ (h : ℕ) (eh : h ≡ planeHeight g p) where
+    -- no place starts past its plane
+    pub first-below : k * b ≤ h
+    first-below = rw eh first-in
+
+    -- a place with as many rows left has the slice height
+    pub rows-whole : b < h - k * b → b ≡ rowsAt g p k
+    unfolding geo.rowsAt
+    rows-whole l =
+        let e : b ≡ min b (h - k * b) = omega arith in
+        rw (← eh, ← eb) e
+
+    -- the last is cut at the plane's height
+    pub rows-cut : h - k * b ≤ b → h - k * b ≡ rowsAt g p k
+    unfolding geo.rowsAt
+    rows-cut l =
+        let e : h - k * b ≡ min b (h - k * b) = omega arith in
+        rw (← eh, ← eb) e
+
+    -- and has a row at least
+    pub rows-left : 1 ≤ h - k * b
+    rows-left = rw (eh, eb) (omega (arith, place-in g ok p k lk))
+
+pub ruleset place-rows = (first-in, first-fits, first-start, first-below, rows-whole, rows-cut, rows-left, needs)

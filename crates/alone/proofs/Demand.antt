@@ -68,7 +68,7 @@ module _ (ls payload samples workspace : List ℕ) (few : length ls ≤ 16384) (
 
   clears : workspaceRead ls payload (length samples) workspace ≡ zeros workspace
   unfolding workspaceRead
-  clears = ap (λ (r : Answer). leftBy 11 r workspace (zeros workspace)) answer-is ∙ cleared workspace the-chain
+  clears = ap (λ (r : Answer). leftBy 11 r workspace (zeros workspace) (zeros workspace)) answer-is ∙ cleared workspace the-chain
 
   -- what demand 3 asks of a reading
   pub reads-chain : ReadsChain ls payload samples workspace

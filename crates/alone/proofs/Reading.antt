@@ -67,7 +67,7 @@ module _ (ls payload workspace samples : List ℕ) (b : Built ls workspace (leng
 -- ---- from the start
 
 -- a reading leaves the workspace wholly zero, whatever the chain is
-pub cleared : (workspace : List ℕ) (c : Chain) → leftBy 11 (readable 0 c) workspace (zeros workspace) ≡ zeros workspace
+pub cleared : (workspace : List ℕ) (c : Chain) → leftBy 11 (readable 0 c) workspace (zeros workspace) (zeros workspace) ≡ zeros workspace
 unfolding leftBy readable
 cleared workspace (symbols ss) = refl
 cleared workspace (stuckAt p) = refl
@@ -132,7 +132,7 @@ module _ (ls payload workspace samples : List ℕ) where
         read-built r workspace₂ samples₂ l a = record {
           answer = a .answer ∙ sym e;
           samples = a .samples ∙ unfold samplesRead in (rw e refl);
-          workspace = a .workspace ∙ ap (λ (n : ℕ). replicate n 0) l ∙ unfold workspaceRead in (sym (ap (λ (x : Answer). leftBy 11 x workspace (zeros workspace)) e ∙ cleared workspace (chain ls payload 0 (length samples))));
+          workspace = a .workspace ∙ ap (λ (n : ℕ). replicate n 0) l ∙ unfold workspaceRead in (sym (ap (λ (x : Answer). leftBy 11 x workspace (zeros workspace) (zeros workspace)) e ∙ cleared workspace (chain ls payload 0 (length samples))));
         }
           where
             e : readAnswer ls payload (length samples) (length workspace) ≡ readable 0 (chain ls payload 0 (length samples))

@@ -22,5 +22,5 @@ pub record Built (ls workspace : List ℕ) (n : ℕ) : Type 0 where
 -- the answer is that of the chain, the workspace is wholly zero, and the samples are the chain's symbols, or wholly zero
 pub record BuiltRead (ls payload workspace₀ samples₀ : List ℕ) (r : Answer) (workspace₁ samples₁ : List ℕ) : Type 0 where
   pub answer : r ≡ readable 0 (chain ls payload 0 (length samples₀))
-  pub samples : samples₁ ≡ leftBy 11 (readable 0 (chain ls payload 0 (length samples₀))) samples₀ (symbolsOf (chain ls payload 0 (length samples₀)))
+  pub samples : samples₁ ≡ leftBy 11 (readable 0 (chain ls payload 0 (length samples₀))) samples₀ (zeros samples₀) (symbolsOf (chain ls payload 0 (length samples₀)))
   pub workspace : workspace₁ ≡ zeros workspace₀

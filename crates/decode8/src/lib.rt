@@ -8,7 +8,7 @@ ghost use mathlib.Core.Bool.{true, false};
 ghost use Prim.Native.Nat.{_*_, _^_, _<_, _≤_};
 ghost use lib.ListN.{length};
 ghost use Rattle.scope.specs.Geometry.{planeCount, sliceCount, allSamples};
-ghost use Rattle.scope.specs.Frame.{readCheck, readChecks, wirePlane, pictureOf, restOf, Decoded};
+ghost use Rattle.scope.specs.Frame.{readCheck, readChecks, wirePlane, pictureOf, roomCheck, restOf, Decoded};
 ghost use Rattle.scope.specs.declared.Answer.the-variants.{Done};
 ghost use Rattle.geometry.specs.Sound.{Sound};
 ghost use Rattle.layout.specs.Placed.{Placed};
@@ -101,7 +101,7 @@ fn run_u8(
     requires { ⌜ Sound g ⌝ }
     requires { ⌜ length (now lengths) ≡ planeCount g * 2 ^ g .depth ⌝ }
     requires { ⌜ (length (now planes) ≡ allSamples g) × (g .depth ≡ 8) ⌝ }
-    ensures answer { λ r. ⌜ r ≡ restOf (now (frame .entry)) g (now (lengths .entry)) (length (now (workspace .entry))) ⌝ }
+    ensures answer { λ r. ⌜ r ≡ restOf (now (frame .entry)) g (now (lengths .entry)) (roomCheck g (now (lengths .entry)) (length (now (workspace .entry)))) ⌝ }
     ensures planes { λ r. ⌜ (r ≡ Done → now (planes .exit) ≡ pictureOf (now (frame .entry)) g (now (lengths .entry))) ⌝ }
 {
     let a = frame::check_frame(frame, g, lengths, workspace.len());

@@ -11,7 +11,7 @@ use Rattle.scope.specs.Refusals.{refuseIf, _andThen_, inOrder}
 use Rattle.scope.specs.Geometry.{planeCount, sliceCount}
 use Rattle.scope.specs.Layout.{preambleStart}
 use Rattle.scope.specs.Frame as frm
-use Rattle.scope.specs.Frame.{preambleChecks, indexCheck, lengthCheck, needOfAll, sliceCheck, frameChecks}
+use Rattle.scope.specs.Frame.{preambleChecks, indexCheck, lengthCheck, needOfAll, roomCheck, sliceCheck, frameChecks}
 use Rattle.scope.specs.declared.Geometry.{Geometry}
 use Rattle.scope.specs.declared.Place.{Place}
 use Rattle.scope.specs.declared.Place.the-variants.{Nothing}
@@ -39,7 +39,7 @@ need-refused (Refused i v) n m w e = cc
 
 module _ (frame : List ℕ) (g : Geometry) (lengths : List ℕ) (workspaceLen : ℕ) (a : Weighed) (ea : a ≡ lengthsWeighed g lengths) where
   -- 9 and 10
-  pub words-refused : (m : ℕ) (w : Place) → a ≡ weighed.Refused m w → Refused m w ≡ wordChecks frame g lengths workspaceLen
+  pub words-refused : (m : ℕ) (w : Place) → a ≡ weighed.Refused m w → Refused m w ≡ wordChecks frame g lengths (roomCheck g lengths workspaceLen)
   unfolding wrd.lengthsWeighed wrd.wordChecks
   words-refused m w h = rw (need-refused (inOrder (planeCount g) (lengthCheck g lengths)) (needOfAll g lengths) m w (sym h ∙ ea))
 
@@ -53,13 +53,13 @@ module _ (frame : List ℕ) (g : Geometry) (lengths : List ℕ) (workspaceLen : 
     need-all = need-done (inOrder (planeCount g) (lengthCheck g lengths)) (needOfAll g lengths) n (sym h ∙ ea) .1
 
     -- 11
-    pub words-11 : workspaceLen < n → Refused 11 Nothing ≡ wordChecks frame g lengths workspaceLen
-    unfolding wrd.wordChecks
+    pub words-11 : workspaceLen < n → Refused 11 Nothing ≡ wordChecks frame g lengths (roomCheck g lengths workspaceLen)
+    unfolding wrd.wordChecks frm.roomCheck
     words-11 l = rw (passed, ← need-all, lt-ltb workspaceLen n l)
 
     -- else the slices' answer
-    pub words-slices : (r : Answer) → n ≤ workspaceLen → r ≡ inOrder (sliceCount g) (sliceCheck frame g lengths) → r ≡ wordChecks frame g lengths workspaceLen
-    unfolding wrd.wordChecks
+    pub words-slices : (r : Answer) → n ≤ workspaceLen → r ≡ inOrder (sliceCount g) (sliceCheck frame g lengths) → r ≡ wordChecks frame g lengths (roomCheck g lengths workspaceLen)
+    unfolding wrd.wordChecks frm.roomCheck
     words-slices r l e = rw (passed, ← need-all, le-ltb workspaceLen n l) e
 
 pub ruleset wordings = (words-refused, words-11, words-slices, layout-indices, layout-order, needs)
@@ -68,8 +68,8 @@ pub ruleset wordings = (words-refused, words-11, words-slices, layout-indices, l
 
 module _ (frame : List ℕ) (g : Geometry) (lengths : List ℕ) (workspaceLen : ℕ) where
   -- they are the two steps one after the other
-  pub frame-steps : frameChecks frame g lengths workspaceLen ≡ (layoutChecks frame g andThen wordChecks frame g lengths workspaceLen)
-  unfolding frm.frameChecks placed.layoutChecks wrd.wordChecks
+  pub frame-steps : frameChecks frame g lengths (roomCheck g lengths workspaceLen) ≡ (layoutChecks frame g andThen wordChecks frame g lengths (roomCheck g lengths workspaceLen))
+  unfolding frm.frameChecks placed.layoutChecks wrd.wordChecks frm.roomCheck
   frame-steps = go (preambleChecks frame g) (inOrder (sliceCount g) (indexCheck frame g)) (inOrder (planeCount g) (lengthCheck g lengths) andThen refuseIf (ltb workspaceLen (needOfAll g lengths)) 11 Nothing andThen inOrder (sliceCount g) (sliceCheck frame g lengths))
     where
       go : (a b c : Answer) → (a andThen b andThen c) ≡ ((a andThen b) andThen c)
@@ -77,11 +77,11 @@ module _ (frame : List ℕ) (g : Geometry) (lengths : List ℕ) (workspaceLen : 
       go (Refused n w) b c = refl
 
   -- a refusal of the first is the answer
-  pub frame-early : (a : Answer) (n : ℕ) (w : Place) → a ≡ layoutChecks frame g → a ≡ Refused n w → Refused n w ≡ frameChecks frame g lengths workspaceLen
+  pub frame-early : (a : Answer) (n : ℕ) (w : Place) → a ≡ layoutChecks frame g → a ≡ Refused n w → Refused n w ≡ frameChecks frame g lengths (roomCheck g lengths workspaceLen)
   frame-early a n w e h = rw (frame-steps, ← e, h)
 
   -- else the second step gives it
-  pub frame-late : (a b : Answer) → a ≡ layoutChecks frame g → a ≡ Done → b ≡ wordChecks frame g lengths workspaceLen → b ≡ frameChecks frame g lengths workspaceLen
+  pub frame-late : (a b : Answer) → a ≡ layoutChecks frame g → a ≡ Done → b ≡ wordChecks frame g lengths (roomCheck g lengths workspaceLen) → b ≡ frameChecks frame g lengths (roomCheck g lengths workspaceLen)
   frame-late a b e h k = rw (frame-steps, ← e, h) k
 
   -- and then none of 5 to 8 applies
@@ -89,11 +89,11 @@ module _ (frame : List ℕ) (g : Geometry) (lengths : List ℕ) (workspaceLen : 
   layout-told a e h = sym h ∙ e
 
   -- ---- once none applies
-  module _ (e : Done ≡ frameChecks frame g lengths workspaceLen) where
+  module _ (e : Done ≡ frameChecks frame g lengths (roomCheck g lengths workspaceLen)) where
     layout-passed : Done ≡ layoutChecks frame g
     layout-passed = first-passed (layoutChecks frame g) _ (e ∙ frame-steps)
 
-    rest-passed : Done ≡ wordChecks frame g lengths workspaceLen
+    rest-passed : Done ≡ wordChecks frame g lengths (roomCheck g lengths workspaceLen)
     rest-passed = then-passed (layoutChecks frame g) _ (e ∙ frame-steps)
 
     -- the plane indices are in the frame
@@ -106,11 +106,11 @@ module _ (frame : List ℕ) (g : Geometry) (lengths : List ℕ) (workspaceLen : 
 
     -- each plane's lengths pass 9 and 10
     pub frame-lengths : Done ≡ inOrder (planeCount g) (lengthCheck g lengths)
-    unfolding wrd.wordChecks
+    unfolding wrd.wordChecks frm.roomCheck
     frame-lengths = first-passed (inOrder (planeCount g) (lengthCheck g lengths)) _ rest-passed
 
     room-on : Done ≡ (refuseIf (ltb workspaceLen (needOfAll g lengths)) 11 Nothing andThen inOrder (sliceCount g) (sliceCheck frame g lengths))
-    unfolding wrd.wordChecks
+    unfolding wrd.wordChecks frm.roomCheck
     room-on = then-passed (inOrder (planeCount g) (lengthCheck g lengths)) _ rest-passed
 
     -- the workspace has room for all tables

@@ -57,7 +57,7 @@ earlier-pass g lengths (suc p) k =
 module _ (deep : Bool) (frame : List ℕ) (g : Geometry) (lengths : List ℕ) (planesLen workspaceLen p : ℕ) where
   -- what the check of plane p says is the answer, once it is reached
   plane-answers : Reached deep frame g lengths planesLen p → (n : ℕ) → Refused n (Plane p) ≡ lengthCheck g lengths p → answerOf deep frame g lengths planesLen workspaceLen ≡ Refused n (Plane p)
-  unfolding frm.answerOf frm.restOf frm.frameChecks
+  unfolding frm.answerOf frm.restOf frm.frameChecks frm.roomCheck
   plane-answers w n e =
       let k : Refused n (Plane p) ≡ inOrder (planeCount g) (lengthCheck g lengths) = one-refused (lengthCheck g lengths) (planeCount g) p n (Plane p) (w .plane) (earlier-pass g lengths p (w .earlier)) e in
       rw (← w .lent, ← w .preamble, ← w .indices, ← k)

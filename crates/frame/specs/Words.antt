@@ -21,10 +21,9 @@ orNeed (answer.Refused k w) n = Refused k w
 unfoldable pub lengthsWeighed : Geometry → List ℕ → Weighed
 lengthsWeighed g lengths = orNeed (inOrder (planeCount g) (lengthCheck g lengths)) (needOfAll g lengths)
 
--- refusals 9 to 14
-unfoldable pub wordChecks : List ℕ → Geometry → List ℕ → ℕ → Answer
-wordChecks frame g lengths workspaceLen =
+-- refusals 9 to 14; `room` is 11's answer
+unfoldable pub wordChecks : List ℕ → Geometry → List ℕ → Answer → Answer
+wordChecks frame g lengths room =
     let words : Answer = inOrder (planeCount g) (lengthCheck g lengths) in
-    let room : Answer = refuseIf (ltb workspaceLen (needOfAll g lengths)) 11 Nothing in
     let slices : Answer = inOrder (sliceCount g) (sliceCheck frame g lengths) in
     words andThen room andThen slices

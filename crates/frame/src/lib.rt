@@ -14,7 +14,7 @@ ghost use mathlib.Core.Path.{_≡_};
 ghost use Prim.Native.Nat.{_*_, _<_, _^_};
 ghost use lib.ListN.{length};
 ghost use Rattle.scope.specs.Geometry.{planeCount, lengthsOf};
-ghost use Rattle.scope.specs.Frame.{frameChecks};
+ghost use Rattle.scope.specs.Frame.{roomCheck, frameChecks};
 ghost use Rattle.scope.specs.declared.Answer.the-variants.{Done};
 ghost use Rattle.geometry.specs.Sound.{Sound};
 ghost use Rattle.layout.specs.Placed.{layoutChecks};
@@ -59,7 +59,7 @@ fn check_words(frame: &[u8], g: Geometry, lengths: &[u8], workspace: usize) -> A
     requires { ⌜ Sound g ⌝ }
     requires { ⌜ length (now lengths) ≡ planeCount g * 2 ^ g .depth ⌝ }
     requires { ⌜ Done ≡ layoutChecks (now frame) g ⌝ }
-    ensures { λ r. ⌜ r ≡ wordChecks (now (frame .entry)) g (now (lengths .entry)) workspace ⌝ }
+    ensures { λ r. ⌜ r ≡ wordChecks (now (frame .entry)) g (now (lengths .entry)) (roomCheck g (now (lengths .entry)) workspace) ⌝ }
 {
     let a = check_lengths(g, lengths);
     match a {
@@ -78,7 +78,7 @@ fn check_words(frame: &[u8], g: Geometry, lengths: &[u8], workspace: usize) -> A
 pub fn check_frame(frame: &[u8], g: Geometry, lengths: &[u8], workspace: usize) -> Answer
     requires { ⌜ Sound g ⌝ }
     requires { ⌜ length (now lengths) ≡ planeCount g * 2 ^ g .depth ⌝ }
-    ensures { λ r. ⌜ r ≡ frameChecks (now (frame .entry)) g (now (lengths .entry)) workspace ⌝ }
+    ensures { λ r. ⌜ r ≡ frameChecks (now (frame .entry)) g (now (lengths .entry)) (roomCheck g (now (lengths .entry)) workspace) ⌝ }
 {
     let a = check_layout(frame, g);
     match a {

@@ -72,8 +72,8 @@ pub record Says (a : Answer) (r : Reply) : Type 0 where
 -- the statement of an exported frame entry
 pub record Hosted (deep : Bool) (frame : List ℕ) (n : Numbers) (lengths planes₀ workspace₀ : List ℕ) (r : Reply) (planes₁ workspace₁ : List ℕ) : Type 0 where
   pub answer : Says (hostAnswer deep frame n lengths (length planes₀) (length workspace₀)) r
-  pub planes : planes₁ ≡ leftBy 4 (hostAnswer deep frame n lengths (length planes₀) (length workspace₀)) planes₀ (pictureOf frame (geometryOf n) lengths)
-  pub workspace : workspace₁ ≡ leftBy 4 (hostAnswer deep frame n lengths (length planes₀) (length workspace₀)) workspace₀ (zeros workspace₀)
+  pub planes : planes₁ ≡ leftBy 4 (hostAnswer deep frame n lengths (length planes₀) (length workspace₀)) planes₀ (zeros planes₀) (pictureOf frame (geometryOf n) lengths)
+  pub workspace : workspace₁ ≡ leftBy 4 (hostAnswer deep frame n lengths (length planes₀) (length workspace₀)) workspace₀ (zeros workspace₀) (zeros workspace₀)
 
 -- the statements of the exported table and reading
 pub record BuiltFor (ls workspace₀ : List ℕ) (r : Reply) (workspace₁ : List ℕ) : Type 0 where

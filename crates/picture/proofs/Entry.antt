@@ -10,7 +10,7 @@ use Rattle.scope.specs.Refusals.{_andThen_, inOrder}
 use Rattle.scope.specs.Geometry.{planeCount, sliceCount, allSamples}
 use Rattle.scope.specs.Layout.{preambleStart}
 use Rattle.scope.specs.Frame as frm
-use Rattle.scope.specs.Frame.{lentChecks, lengthCheck, needOfAll, frameChecks, readChecks, restOf, wirePlane, pictureOf}
+use Rattle.scope.specs.Frame.{lentChecks, lengthCheck, needOfAll, roomCheck, frameChecks, readChecks, restOf, wirePlane, pictureOf}
 use Rattle.scope.specs.declared.Geometry.{Geometry}
 use Rattle.scope.specs.declared.Place.{Place}
 use Rattle.scope.specs.declared.Answer.{Answer}
@@ -24,13 +24,13 @@ use Rattle.planes.proofs.Colours.{picture-is}
 use Rattle.picture.specs.Steps.{Checked}
 
 -- ---- the rest of the table, once 1 to 4 have passed
-module _ (frame : List ℕ) (g : Geometry) (lengths : List ℕ) (w : ℕ) (a : Answer) (ea : a ≡ frameChecks frame g lengths w) where
-  pub rest-refused : (n : ℕ) (p : Place) → a ≡ Refused n p → Refused n p ≡ restOf frame g lengths w
+module _ (frame : List ℕ) (g : Geometry) (lengths : List ℕ) (w : ℕ) (a : Answer) (ea : a ≡ frameChecks frame g lengths (roomCheck g lengths w)) where
+  pub rest-refused : (n : ℕ) (p : Place) → a ≡ Refused n p → Refused n p ≡ restOf frame g lengths (roomCheck g lengths w)
   unfolding frm.restOf
   rest-refused n p h = rw (← ea, h)
 
   module _ (da : a ≡ Done) where
-    passed : Done ≡ frameChecks frame g lengths w
+    passed : Done ≡ frameChecks frame g lengths (roomCheck g lengths w)
     passed = sym da ∙ ea
 
     -- what the checks leave
@@ -52,11 +52,11 @@ module _ (frame : List ℕ) (g : Geometry) (lengths : List ℕ) (w : ℕ) (a : A
     rest-room = frame-room frame g lengths w passed
 
     -- the reading's answer is the rest of it
-    pub rest-read : (b : Answer) (n : ℕ) (p : Place) → b ≡ readChecks frame g lengths → b ≡ Refused n p → Refused n p ≡ restOf frame g lengths w
+    pub rest-read : (b : Answer) (n : ℕ) (p : Place) → b ≡ readChecks frame g lengths → b ≡ Refused n p → Refused n p ≡ restOf frame g lengths (roomCheck g lengths w)
     unfolding frm.restOf
     rest-read b n p eb h = rw (← ea, da) (sym h ∙ eb)
 
-    pub rest-done : (b : Answer) → b ≡ readChecks frame g lengths → b ≡ Done → Done ≡ restOf frame g lengths w
+    pub rest-done : (b : Answer) → b ≡ readChecks frame g lengths → b ≡ Done → Done ≡ restOf frame g lengths (roomCheck g lengths w)
     unfolding frm.restOf
     rest-done b eb h = rw (← ea, da) (sym h ∙ eb)
 

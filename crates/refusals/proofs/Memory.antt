@@ -34,45 +34,45 @@ number-small Done h = omega arith
 number-small (Refused n p) h = h .1
 
 -- ---- what an answer leaves, by its number
-left-done : (a : Answer) (found good : List ℕ) → Every Numbered a → numberOf a ≡ 0 → leftBy 4 a found good ≡ good
+left-done : (a : Answer) (found cleared good : List ℕ) → Every Numbered a → numberOf a ≡ 0 → leftBy 4 a found cleared good ≡ good
 unfolding leftBy Every
-left-done Done found good h e = refl
-left-done (Refused n p) found good h e = absurd (omega (arith, e, h .0))
+left-done Done found cleared good h e = refl
+left-done (Refused n p) found cleared good h e = absurd (omega (arith, e, h .0))
 
-left-found : (a : Answer) (found good : List ℕ) → 0 < numberOf a → numberOf a ≤ 4 → leftBy 4 a found good ≡ found
+left-found : (a : Answer) (found cleared good : List ℕ) → 0 < numberOf a → numberOf a ≤ 4 → leftBy 4 a found cleared good ≡ found
 unfolding leftBy
-left-found Done found good l h = absurd (omega (arith, l))
-left-found (Refused n p) found good l h = rw (le-leb n 4 h)
+left-found Done found cleared good l h = absurd (omega (arith, l))
+left-found (Refused n p) found cleared good l h = rw (le-leb n 4 h)
 
-left-cleared : (a : Answer) (found good : List ℕ) → 4 < numberOf a → leftBy 4 a found good ≡ zeros found
+left-cleared : (a : Answer) (found cleared good : List ℕ) → 4 < numberOf a → leftBy 4 a found cleared good ≡ cleared
 unfolding leftBy
-left-cleared Done found good h = absurd (omega (arith, h))
-left-cleared (Refused n p) found good h = rw (lt-leb n 4 h)
+left-cleared Done found cleared good h = absurd (omega (arith, h))
+left-cleared (Refused n p) found cleared good h = rw (lt-leb n 4 h)
 
 -- ---- one call
 module _ (deep : Bool) (frame : List ℕ) (g : Geometry) (lengths planes₀ workspace₀ : List ℕ) (r : Answer) (planes₁ workspace₁ : List ℕ) (d : Decoded deep frame g lengths planes₀ workspace₀ r planes₁ workspace₁) where
   fine : Every Numbered r
   fine = rw (d .answer) (numbered deep frame g lengths (length planes₀) (length workspace₀))
 
-  planes-are : planes₁ ≡ leftBy 4 r planes₀ (pictureOf frame g lengths)
+  planes-are : planes₁ ≡ leftBy 4 r planes₀ (zeros planes₀) (pictureOf frame g lengths)
   unfolding planesAfter
   planes-are = rw (d .answer) (d .planes)
 
-  workspace-is : workspace₁ ≡ leftBy 4 r workspace₀ (zeros workspace₀)
+  workspace-is : workspace₁ ≡ leftBy 4 r workspace₀ (zeros workspace₀) (zeros workspace₀)
   unfolding workspaceAfter
   workspace-is = rw (d .answer) (d .workspace)
 
   when-done : numberOf r ≡ 0 → (planes₁ ≡ pictureOf frame g lengths) × (workspace₁ ≡ zeros workspace₀)
   when-done e =
-      (planes-are ∙ left-done r planes₀ (pictureOf frame g lengths) fine e, workspace-is ∙ left-done r workspace₀ (zeros workspace₀) fine e)
+      (planes-are ∙ left-done r planes₀ (zeros planes₀) (pictureOf frame g lengths) fine e, workspace-is ∙ left-done r workspace₀ (zeros workspace₀) (zeros workspace₀) fine e)
 
   when-found : 0 < numberOf r → numberOf r ≤ 4 → (planes₁ ≡ planes₀) × (workspace₁ ≡ workspace₀)
   when-found l h =
-      (planes-are ∙ left-found r planes₀ (pictureOf frame g lengths) l h, workspace-is ∙ left-found r workspace₀ (zeros workspace₀) l h)
+      (planes-are ∙ left-found r planes₀ (zeros planes₀) (pictureOf frame g lengths) l h, workspace-is ∙ left-found r workspace₀ (zeros workspace₀) (zeros workspace₀) l h)
 
   when-cleared : 4 < numberOf r → (planes₁ ≡ zeros planes₀) × (workspace₁ ≡ zeros workspace₀)
   when-cleared h =
-      (planes-are ∙ left-cleared r planes₀ (pictureOf frame g lengths) h, workspace-is ∙ left-cleared r workspace₀ (zeros workspace₀) h)
+      (planes-are ∙ left-cleared r planes₀ (zeros planes₀) (pictureOf frame g lengths) h, workspace-is ∙ left-cleared r workspace₀ (zeros workspace₀) (zeros workspace₀) h)
 
 account : (deep : Bool) (c : Call) → Allowed deep c → Accounted deep c
 account deep c h =

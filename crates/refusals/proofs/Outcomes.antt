@@ -7,7 +7,7 @@ use mathlib.Core.List.{List}
 use lib.Dec.{leb}
 use lib.ListN.{length, replicate}
 use Rattle.scope.specs.Refusals.{leftBy}
-use Rattle.scope.specs.Frame.{lentChecks, restOf, answerOf, pictureOf, planesAfter, workspaceAfter, Decoded}
+use Rattle.scope.specs.Frame.{roomCheck, lentChecks, restOf, answerOf, pictureOf, planesAfter, workspaceAfter, Decoded}
 use Rattle.scope.specs.declared.Geometry.{Geometry}
 use Rattle.scope.specs.declared.Place.{Place}
 use Rattle.scope.specs.declared.Answer.{Answer}
@@ -25,9 +25,9 @@ lent-early deep g l q a n p ea h =
     (every-lent (Side true) deep g l q (record { row1 = refl; row2 = refl; row3 = refl; row4 = refl })) (sym ea ∙ h)
 
 -- and all others above it
-pub rest-late : (frame : List ℕ) (g : Geometry) (lengths : List ℕ) (w : ℕ) (a : Answer) (n : ℕ) (p : Place) → a ≡ restOf frame g lengths w → a ≡ Refused n p → leb n 4 ≡ false
+pub rest-late : (frame : List ℕ) (g : Geometry) (lengths : List ℕ) (w : ℕ) (a : Answer) (n : ℕ) (p : Place) → a ≡ restOf frame g lengths (roomCheck g lengths w) → a ≡ Refused n p → leb n 4 ≡ false
 rest-late frame g lengths w a n p ea h =
-    every-refused (Side false) (restOf frame g lengths w) n p
+    every-refused (Side false) (restOf frame g lengths (roomCheck g lengths w)) n p
     (every-rest (Side false) frame g lengths
     (record { row5 = refl; row6 = refl; row7 = refl; row8 = λ s l. refl; row9 = λ q l. refl; row10 = λ q l. refl; row11 = refl; row12 = λ s l. refl; row13 = λ s l. refl; row14 = λ s l i. refl; row15 = λ s l. refl }) w)
     (sym ea ∙ h)
@@ -40,7 +40,7 @@ module _ (deep : Bool) (frame : List ℕ) (g : Geometry) (lengths planes workspa
       let e : leb n 4 ≡ true = lent-early deep g (length lengths) (length planes) a n p ea h in
       record { answer = rw (← ea, h); planes = rw (← ea, h, e); workspace = rw (← ea, h, e) }
 
-  module _ (da : a ≡ Done) (r : Answer) (er : r ≡ restOf frame g lengths (length workspace)) where
+  module _ (da : a ≡ Done) (r : Answer) (er : r ≡ restOf frame g lengths (roomCheck g lengths (length workspace))) where
     whole : answerOf deep frame g lengths (length planes) (length workspace) ≡ r
     unfolding answerOf
     whole = rw (← ea, da) (sym er)

@@ -8,7 +8,7 @@ use native.Mathlib.Omega.{arith}
 use lib.ListN.{length}
 use Rattle.scope.specs.Refusals.{placeNumber}
 use Rattle.scope.specs.Geometry.{planesOf, sliceCount}
-use Rattle.scope.specs.Frame.{lentChecks, restOf, answerOf}
+use Rattle.scope.specs.Frame.{roomCheck, lentChecks, restOf, answerOf}
 use Rattle.scope.specs.declared.Family.{Family}
 use Rattle.scope.specs.declared.Family.the-variants.{Gray, Rgb, Yuv, Rgba, Yuva}
 use Rattle.scope.specs.declared.Geometry.{Geometry}
@@ -33,7 +33,7 @@ pub place-small : (deep : Bool) (frame : List ℕ) (g : Geometry) (lengths : Lis
 unfolding answerOf
 place-small deep frame g lengths planes w few a n p ea h =
     every-refused Small (answerOf deep frame g lengths planes w) n p
-    (every-next Small (lentChecks deep g (length lengths) planes) (restOf frame g lengths w)
+    (every-next Small (lentChecks deep g (length lengths) planes) (restOf frame g lengths (roomCheck g lengths w))
     (every-lent Small deep g (length lengths) planes (record { row1 = omega arith; row2 = omega arith; row3 = omega arith; row4 = omega arith }))
     (λ e. every-rest Small frame g lengths (rows (few e)) w))
     (sym ea ∙ h)

@@ -12,7 +12,7 @@ use Rattle.scope.specs.Refusals.{refuseIf, _andThen_, inOrder}
 use Rattle.scope.specs.Geometry.{geometryFits, factorsDivide, sliceHeightDivides, planeCount, slicesPerPlane, sliceCount, allSamples, lengthsOf}
 use Rattle.scope.specs.Layout.{preambleStart, preambleEnd, countByte, planeIndex, placeInPlane, sliceStart, sliceEnd, isRaw, predictorOf}
 use Rattle.scope.specs.Words.{longest, tooLong, overfull, Chain, symbols, stuckAt}
-use Rattle.scope.specs.Frame.{lentChecks, preambleChecks, indexCheck, lengthCheck, needOfAll, sliceLengths, fewestBytes, sliceCheck, residuesOf, readable, readCheck, frameChecks, readChecks, restOf, answerOf}
+use Rattle.scope.specs.Frame.{lentChecks, preambleChecks, indexCheck, lengthCheck, needOfAll, roomCheck, sliceLengths, fewestBytes, sliceCheck, residuesOf, readable, readCheck, frameChecks, readChecks, restOf, answerOf}
 use Rattle.scope.specs.declared.Geometry.{Geometry}
 use Rattle.scope.specs.declared.Place.{Place}
 use Rattle.scope.specs.declared.Place.the-variants.{Slice, Plane, Nothing}
@@ -37,9 +37,9 @@ module _ (frame : List ℕ) (g : Geometry) (s : ℕ) (e : Done ≡ indexCheck fr
   index-room = leb-false _ _ (passed .1)
 
 -- what the checks of a frame have passed when all have
-pub indices-passed : (frame : List ℕ) (g : Geometry) (lengths : List ℕ) (w : ℕ) → Done ≡ frameChecks frame g lengths w → Done ≡ inOrder (sliceCount g) (indexCheck frame g)
+pub indices-passed : (frame : List ℕ) (g : Geometry) (lengths : List ℕ) (room : Answer) → Done ≡ frameChecks frame g lengths room → Done ≡ inOrder (sliceCount g) (indexCheck frame g)
 unfolding frameChecks
-indices-passed frame g lengths w e = first-passed (inOrder (sliceCount g) (indexCheck frame g)) _ (then-passed (preambleChecks frame g) _ e)
+indices-passed frame g lengths room e = first-passed (inOrder (sliceCount g) (indexCheck frame g)) _ (then-passed (preambleChecks frame g) _ e)
 
 -- ---- every answer
 
@@ -121,26 +121,30 @@ module _ (Q : ℕ → Place → Type 0) where
         every-one (not (leb 1 (predictorOf frame g s) && leb (predictorOf frame g s) 3)) 15 (Slice s) _ (q .row15 s l)
         (every-readable s (residuesOf frame g lengths s) l i)
 
-    every-frame : (w : ℕ) → Every Q (frameChecks frame g lengths w)
+    every-room : (w : ℕ) → Every Q (roomCheck g lengths w)
+    unfolding roomCheck
+    every-room w = every-if (ltb w (needOfAll g lengths)) 11 Nothing (q .row11)
+
+    every-frame : (room : Answer) → Every Q room → Every Q (frameChecks frame g lengths room)
     unfolding frameChecks
-    every-frame w =
+    every-frame room r =
         every-then (preambleChecks frame g) _ every-preamble
         (every-next (inOrder (sliceCount g) (indexCheck frame g)) _ (every-order _ _ every-index) (λ e.
         every-then (inOrder (planeCount g) (lengthCheck g lengths)) _ (every-order _ _ every-length)
-        (every-one (ltb w (needOfAll g lengths)) 11 Nothing _ (q .row11) (every-order _ _ (λ s l. every-slice s l (index-below frame g s (each-passed _ _ s e l)))))))
+        (every-then room _ r (every-order _ _ (λ s l. every-slice s l (index-below frame g s (each-passed _ _ s e l)))))))
 
     -- refusals 5 to 15
-    pub every-rest : (w : ℕ) → Every Q (restOf frame g lengths w)
+    pub every-rest : (w : ℕ) → Every Q (restOf frame g lengths (roomCheck g lengths w))
     unfolding restOf readChecks
     every-rest w =
-        every-next (frameChecks frame g lengths w) (inOrder (sliceCount g) (readCheck frame g lengths)) (every-frame w)
-        (λ e. every-order _ _ (λ s l. every-read s l (index-below frame g s (each-passed _ _ s (indices-passed frame g lengths w e) l))))
+        every-next (frameChecks frame g lengths (roomCheck g lengths w)) (inOrder (sliceCount g) (readCheck frame g lengths)) (every-frame (roomCheck g lengths w) (every-room w))
+        (λ e. every-order _ _ (λ s l. every-read s l (index-below frame g s (each-passed _ _ s (indices-passed frame g lengths (roomCheck g lengths w) e) l))))
 
     -- all of them
     pub every-answer : (deep : Bool) (planes w : ℕ) → LentRows Q → Every Q (answerOf deep frame g lengths planes w)
     unfolding answerOf
     every-answer deep planes w r =
-        every-then (lentChecks deep g (length lengths) planes) (restOf frame g lengths w) (every-lent deep g (length lengths) planes r) (every-rest w)
+        every-then (lentChecks deep g (length lengths) planes) (restOf frame g lengths (roomCheck g lengths w)) (every-lent deep g (length lengths) planes r) (every-rest w)
 
 -- what is said of a refusal, from what is said of the answer
 pub every-refused : (Q : ℕ → Place → Type 0) (a : Answer) (n : ℕ) (p : Place) → Every Q a → a ≡ Refused n p → Q n p

@@ -26,7 +26,7 @@ buildAnswer ls workspaceLen =
 -- within it."
 unfoldable pub workspaceBuilt : List ℕ → List ℕ → List ℕ
 workspaceBuilt ls workspace =
-    leftBy 11 (buildAnswer ls (length workspace)) workspace (tableOf ls ++ drop (need ls) workspace)
+    leftBy 11 (buildAnswer ls (length workspace)) workspace (zeros workspace) (tableOf ls ++ drop (need ls) workspace)
 
 -- the statement of a table built by itself
 pub record BuiltAlone (ls workspace₀ : List ℕ) (r : Answer) (workspace₁ : List ℕ) : Type 0 where
@@ -45,11 +45,11 @@ readAnswer ls payload n workspaceLen =
 -- workspace zero", and the samples are the symbols of the chain.
 unfoldable pub samplesRead : List ℕ → List ℕ → List ℕ → ℕ → List ℕ
 samplesRead ls payload samples workspaceLen =
-    leftBy 11 (readAnswer ls payload (length samples) workspaceLen) samples (symbolsOf (chain ls payload 0 (length samples)))
+    leftBy 11 (readAnswer ls payload (length samples) workspaceLen) samples (zeros samples) (symbolsOf (chain ls payload 0 (length samples)))
 
 unfoldable pub workspaceRead : List ℕ → List ℕ → ℕ → List ℕ → List ℕ
 workspaceRead ls payload n workspace =
-    leftBy 11 (readAnswer ls payload n (length workspace)) workspace (zeros workspace)
+    leftBy 11 (readAnswer ls payload n (length workspace)) workspace (zeros workspace) (zeros workspace)
 
 -- the statement of a reading by itself
 pub record ReadAlone (ls payload workspace₀ samples₀ : List ℕ) (r : Answer) (workspace₁ samples₁ : List ℕ) : Type 0 where

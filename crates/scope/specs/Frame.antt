@@ -8,7 +8,7 @@ use lib.ListN.{length}
 use lib.Dec.{eqb, ltb, leb}
 use Rattle.scope.specs.Base.{overUp, sumBelow, zeros}
 use Rattle.scope.specs.Refusals.{refuseIf, _andThen_, inOrder, leftBy}
-use Rattle.scope.specs.Geometry.{correlated, geometryFits, factorsDivide, sliceHeightDivides, planeCount, slicesPerPlane, sliceCount, planeWidth, allSamples, lengthsOf, fields}
+use Rattle.scope.specs.Geometry.{correlated, geometryFits, factorsDivide, sliceHeightDivides, planeCount, slicesPerPlane, sliceCount, planeWidth, allElements, lengthsOf, fields}
 use Rattle.scope.specs.Layout.{preambleStart, preambleEnd, countByte, planeIndex, placeInPlane, sliceStart, sliceEnd, isRaw, predictorOf, payloadOf, samplesIn}
 use Rattle.scope.specs.Bits.{rawSamples}
 use Rattle.scope.specs.Words.{longest, shortest, tooLong, overfull, need, Chain, symbols, stuckAt, chain}
@@ -29,7 +29,7 @@ lentChecks deep g lengthsLen planesLen =
     -- "slice height not a multiple of sy"
     andThen refuseIf (not (sliceHeightDivides g)) 3 Nothing
     -- "lengths not exactly P·2^depth bytes, or plane buffer not exactly all planes' samples"
-    andThen refuseIf (not (eqb lengthsLen (planeCount g * 2 ^ g .depth) && eqb planesLen (allSamples g))) 4 Nothing
+    andThen refuseIf (not (eqb lengthsLen (planeCount g * 2 ^ g .depth) && eqb planesLen (allElements g))) 4 Nothing
 
 -- ---- 5 to 8: the entries and the preamble
 
@@ -64,6 +64,10 @@ lengthCheck g lengths p =
 -- "the sum of all planes' needs"
 unfoldable pub needOfAll : Geometry → List ℕ → ℕ
 needOfAll g lengths = sumBelow (planeCount g) (λ p. need (lengthsOf g lengths p))
+
+-- 11: "workspace shorter than the sum of all planes' needs"
+unfoldable pub roomCheck : Geometry → List ℕ → ℕ → Answer
+roomCheck g lengths workspaceLen = refuseIf (ltb workspaceLen (needOfAll g lengths)) 11 Nothing
 
 -- ---- 12 to 14: every slice, before any is read
 
@@ -114,13 +118,11 @@ module _ (frame : List ℕ) (g : Geometry) (lengths : List ℕ) where
 
   -- ---- the answer
 
-  -- what is checked before anything is written
-  unfoldable pub frameChecks : ℕ → Answer
-  frameChecks workspaceLen =
+  -- what is checked before anything is written; `room` is 11's answer, or Done for an entry that needs no workspace
+  unfoldable pub frameChecks : Answer → Answer
+  frameChecks room =
       let indices : Answer = inOrder (sliceCount g) (indexCheck frame g) in
       let words : Answer = inOrder (planeCount g) (lengthCheck g lengths) in
-      -- 11, "workspace shorter than the sum of all planes' needs"
-      let room : Answer = refuseIf (ltb workspaceLen (needOfAll g lengths)) 11 Nothing in
       let slices : Answer = inOrder (sliceCount g) (sliceCheck frame g lengths) in
       preambleChecks frame g andThen indices andThen words andThen room andThen slices
 
@@ -167,27 +169,27 @@ pictureOf frame g lengths =
 
 -- ---- the whole
 
--- the rest of the table, once 1 to 4 have passed
-unfoldable pub restOf : List ℕ → Geometry → List ℕ → ℕ → Answer
-restOf frame g lengths workspaceLen =
+-- the rest of the table, once 1 to 4 have passed; `room` is 11's answer
+unfoldable pub restOf : List ℕ → Geometry → List ℕ → Answer → Answer
+restOf frame g lengths room =
     let reading : Answer = readChecks frame g lengths in
-    frameChecks frame g lengths workspaceLen andThen reading
+    frameChecks frame g lengths room andThen reading
 
 -- what a decode answers; `deep` says which entry it is
 unfoldable pub answerOf : Bool → List ℕ → Geometry → List ℕ → ℕ → ℕ → Answer
 answerOf deep frame g lengths planesLen workspaceLen =
-    let rest : Answer = restOf frame g lengths workspaceLen in
+    let rest : Answer = restOf frame g lengths (roomCheck g lengths workspaceLen) in
     lentChecks deep g (length lengths) planesLen andThen rest
 
 -- "Refusals 1 to 4 leave planes and workspace as found. All others leave both wholly zero. Success leaves the workspace zero and
 -- defines every sample.": what the planes hold after a decode, and what the workspace holds
 unfoldable pub planesAfter : Bool → List ℕ → Geometry → List ℕ → List ℕ → ℕ → List ℕ
 planesAfter deep frame g lengths planes workspaceLen =
-    leftBy 4 (answerOf deep frame g lengths (length planes) workspaceLen) planes (pictureOf frame g lengths)
+    leftBy 4 (answerOf deep frame g lengths (length planes) workspaceLen) planes (zeros planes) (pictureOf frame g lengths)
 
 unfoldable pub workspaceAfter : Bool → List ℕ → Geometry → List ℕ → ℕ → List ℕ → List ℕ
 workspaceAfter deep frame g lengths planesLen workspace =
-    leftBy 4 (answerOf deep frame g lengths planesLen (length workspace)) workspace (zeros workspace)
+    leftBy 4 (answerOf deep frame g lengths planesLen (length workspace)) workspace (zeros workspace) (zeros workspace)
 
 -- the statement of a frame entry: its answer, and what it leaves in the planes and in the workspace
 pub record Decoded (deep : Bool) (frame : List ℕ) (g : Geometry) (lengths planes₀ workspace₀ : List ℕ) (r : Answer) (planes₁ workspace₁ : List ℕ) : Type 0 where

@@ -105,6 +105,17 @@ module _ (g : Geometry) where
   unfoldable pub allSamples : ℕ
   allSamples = sumBelow planeCount planeSamples
 
+  -- The elements of the plane buffer: how many from a row's start to the next row's, of a plane, and in all. "Planes lie one after
+  -- another with no gaps", so every element is a sample.
+  abbrev pub pitchOf : ℕ → ℕ
+  pitchOf = planeWidth
+
+  abbrev pub planeElements : ℕ → ℕ
+  planeElements = planeSamples
+
+  abbrev pub allElements : ℕ
+  allElements = allSamples
+
   -- "Lengths: 2^depth bytes a plane, planes in wire order": plane p's
   unfoldable pub lengthsOf : List ℕ → ℕ → List ℕ
   lengthsOf lengths p = take (2 ^ g .depth) (drop (p * 2 ^ g .depth) lengths)

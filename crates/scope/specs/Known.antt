@@ -15,7 +15,7 @@ use Rattle.scope.specs.Bits.{bitAt, window, packedFrom, rawSamples}
 use Rattle.scope.specs.Words.{lengthOf, longest, shorter, shortest, tooLong, share, shares, overfull, startDown, first, wordOf, isHead, headBelow, heads, needFrom, need, beginsWith, wordBelow, wordAt, Chain, symbols, stuckAt, _before_, onWord, chainBy, chain}
 use Rattle.scope.specs.Lookup.{packed, unpacked, beginsIn, wordIn, firstPart, slots, tableOf, lookupIn}
 use Rattle.scope.specs.Prediction.{gradient, clampMedian, t87Median, median, predictor, prediction, sample, samplesOf, plus}
-use Rattle.scope.specs.Frame.{lentChecks, preambleChecks, indexCheck, lengthCheck, needOfAll, fewestBytes, sliceCheck, residuesOf, readable, symbolsOf, readCheck, frameChecks, readChecks, sliceSamples, planeUpTo, wirePlane, bufferPlane, planesUpTo, pictureOf, restOf, answerOf, planesAfter, workspaceAfter}
+use Rattle.scope.specs.Frame.{lentChecks, preambleChecks, indexCheck, lengthCheck, needOfAll, roomCheck, fewestBytes, sliceCheck, residuesOf, readable, symbolsOf, readCheck, frameChecks, readChecks, sliceSamples, planeUpTo, wirePlane, bufferPlane, planesUpTo, pictureOf, restOf, answerOf, planesAfter, workspaceAfter}
 use Rattle.scope.specs.Alone.{buildAnswer, workspaceBuilt, readAnswer, samplesRead, workspaceRead}
 use Rattle.scope.specs.declared.Family.{Family}
 use Rattle.scope.specs.declared.Family.the-variants.{Gray, Rgb, Yuv}
@@ -246,7 +246,7 @@ unfolding count sumBelow listFrom grown inOrder leftBy
     longest shorter shortest tooLong share shares overfull startDown first wordOf isHead headBelow heads needFrom need beginsWith wordBelow wordAt _before_ onWord chainBy
     packed unpacked beginsIn wordIn firstPart slots tableOf lookupIn
     gradient clampMedian t87Median median predictor prediction sample samplesOf plus
-    lentChecks preambleChecks indexCheck lengthCheck needOfAll fewestBytes sliceCheck residuesOf readable symbolsOf readCheck frameChecks readChecks sliceSamples planeUpTo wirePlane bufferPlane planesUpTo pictureOf restOf answerOf planesAfter workspaceAfter
+    lentChecks preambleChecks indexCheck lengthCheck needOfAll roomCheck fewestBytes sliceCheck residuesOf readable symbolsOf readCheck frameChecks readChecks sliceSamples planeUpTo wirePlane bufferPlane planesUpTo pictureOf restOf answerOf planesAfter workspaceAfter
     buildAnswer workspaceBuilt readAnswer samplesRead workspaceRead
     wordsBelow wordsOf found read said plain le decoded tiny tinySays colours five half bands coded codedSays deepSays known
 known-answers = tt

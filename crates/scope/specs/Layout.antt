@@ -6,8 +6,9 @@ use mathlib.Core.List.{List}
 use lib.ListN.{length, take, drop, getD}
 use lib.Dec.{eqb, ltb}
 use Rattle.scope.specs.Base.{one}
-use Rattle.scope.specs.Geometry.{sliceCount, planeWidth, rowsAt}
+use Rattle.scope.specs.Geometry.{sliceCount, planeWidth, firstRow, rowsAt}
 use Rattle.scope.specs.declared.Geometry.{Geometry}
+use Rattle.scope.specs.declared.SliceAt.{SliceAt}
 
 -- the little-endian 32-bit number at an offset
 unfoldable pub le32 : List ℕ → ℕ → ℕ
@@ -64,3 +65,18 @@ module _ (frame : List ℕ) (g : Geometry) where
   -- how many samples slice s holds: the rows of its place, as wide as its plane
   unfoldable pub samplesIn : ℕ → ℕ
   samplesIn s = rowsAt g (planeIndex s) (placeInPlane s) * planeWidth g (planeIndex s)
+
+  -- slice s as one record: what the checks and the reading of a slice are handed
+  unfoldable pub sliceAt : ℕ → SliceAt
+  sliceAt s =
+      record {
+        plane = planeIndex s;
+        place = placeInPlane s;
+        first = firstRow g (planeIndex s) (placeInPlane s);
+        rows = rowsAt g (planeIndex s) (placeInPlane s);
+        width = planeWidth g (planeIndex s);
+        start = sliceStart s;
+        end = sliceEnd s;
+        raw = isRaw s;
+        predictor = predictorOf s;
+      }

@@ -4,7 +4,6 @@ use Prim.Native.Nat.{ℕ, zero, suc}
 use mathlib.Core.Bool.{Bool, true, false, cond}
 use mathlib.Core.List.{List}
 use lib.Dec.{leb}
-use Rattle.scope.specs.Base.{zeros}
 use Rattle.scope.specs.declared.Place.{Place}
 use Rattle.scope.specs.declared.Place.the-variants.{Slice, Plane, Nothing}
 use Rattle.scope.specs.declared.Answer.{Answer}
@@ -48,7 +47,7 @@ inOrder zero f = Done
 inOrder (suc n) f = inOrder n f andThen f n
 
 -- Lent memory after an answer: `good` after success; as found after the refusals numbered up to `last`, which are those
--- given before anything is written; wholly zero after any other.
-unfoldable pub leftBy : ℕ → Answer → List ℕ → List ℕ → List ℕ
-leftBy last Done found good = good
-leftBy last (Refused n p) found good = cond (leb n last) found (zeros found)
+-- given before anything is written; `cleared`, which is what clearing leaves of it, after any other.
+unfoldable pub leftBy : ℕ → Answer → List ℕ → List ℕ → List ℕ → List ℕ
+leftBy last Done found cleared good = good
+leftBy last (Refused n p) found cleared good = cond (leb n last) found cleared

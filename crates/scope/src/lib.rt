@@ -22,6 +22,21 @@ pub struct Geometry {
     pub interlaced: bool,
 }
 
+// One slice, as document 01's "Layout" places it: the plane that it names and its place there, the plane's rows that the place
+// covers (the first one, and how many) and their width, where the slice starts and ends in the frame, whether it is raw, and its
+// predictor byte. specs/Layout.antt has what each is (`sliceAt`).
+pub struct SliceAt {
+    pub plane: usize,
+    pub place: usize,
+    pub first: usize,
+    pub rows: usize,
+    pub width: usize,
+    pub start: usize,
+    pub end: usize,
+    pub raw: bool,
+    pub predictor: u8,
+}
+
 // Where a refusal stands: at a slice, at a plane, or nowhere in particular.
 pub enum Place {
     Slice(usize),

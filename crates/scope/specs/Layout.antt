@@ -70,6 +70,7 @@ module _ (frame : List ℕ) (g : Geometry) where
   unfoldable pub sliceAt : ℕ → SliceAt
   sliceAt s =
       record {
+        number = s;
         plane = planeIndex s;
         place = placeInPlane s;
         first = firstRow g (planeIndex s) (placeInPlane s);

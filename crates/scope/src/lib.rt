@@ -22,10 +22,11 @@ pub struct Geometry {
     pub interlaced: bool,
 }
 
-// One slice, as document 01's "Layout" places it: the plane that it names and its place there, the plane's rows that the place
+// One slice, as document 01's "Layout" places it: its number in wire order, the plane that it names and its place there, the plane's rows that the place
 // covers (the first one, and how many) and their width, where the slice starts and ends in the frame, whether it is raw, and its
 // predictor byte. specs/Layout.antt has what each is (`sliceAt`).
 pub struct SliceAt {
+    pub number: usize,
     pub plane: usize,
     pub place: usize,
     pub first: usize,

@@ -1,7 +1,7 @@
--- `layout::check_layout` meets its contract: the two steps one after the other (document 01, "Layout" and "Refusal numbers"). Assumes nothing.
-use Rattle.layout.proofs.Checks.{layouts}
-use Rattle.layout.proofs.check_layout.Statement.{statement}
-use Rattle.layout.proofs.check_layout.Tie as tie
+-- `preamble::check_layout` meets its contract: the two steps one after the other (document 01, "Layout" and "Refusal numbers"). Assumes nothing.
+use Rattle.preamble.proofs.Checks.{layouts}
+use Rattle.preamble.proofs.check_layout.Statement.{statement}
+use Rattle.preamble.proofs.check_layout.Tie as tie
 
 check-preamble-requires : tie.Need-check-preamble-requires
 check-preamble-requires c κs = search layouts

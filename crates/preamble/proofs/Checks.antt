@@ -16,37 +16,14 @@ use Rattle.scope.specs.Frame as frm
 use Rattle.scope.specs.Frame.{preambleChecks, indexCheck}
 use Rattle.geometry.specs.Sound.{Sound}
 use Rattle.geometry.proofs.Places.{slice-count-some}
-use Rattle.layout.specs.Placed as placed
-use Rattle.layout.specs.Placed.{layoutChecks}
+use Rattle.preamble.specs.Layout as laid
+use Rattle.preamble.specs.Layout.{layoutChecks}
 use Rattle.refusals.proofs.InOrder.{first-passed, then-passed, if-passed}
 use Rattle.scope.specs.declared.Geometry.{Geometry}
 use Rattle.scope.specs.declared.Place.{Place}
 use Rattle.scope.specs.declared.Place.the-variants.{Nothing}
 use Rattle.scope.specs.declared.Answer.{Answer}
 use Rattle.scope.specs.declared.Answer.the-variants.{Done, Refused}
-
--- ---- the readers
-
--- four bytes, the lowest first
-pub le32-is : (frame : List ℕ) (at a b c d : ℕ) → a ≡ getD frame at 0 → b ≡ getD frame (at + 1) 0 → c ≡ getD frame (at + 2) 0 → d ≡ getD frame (at + 3) 0 → a + 256 * b + 65536 * c + 16777216 * d ≡ le32 frame at
-unfolding lay.le32
-le32-is frame at a b c d ea eb ec ed = rw (ea, eb, ec, ed)
-
-module _ (frame : List ℕ) (g : Geometry) (s : ℕ) where
-  -- a slice's start
-  pub starts-at : (e : ℕ) → e ≡ le32 frame (32 + 4 * (s + 1)) → 32 + e ≡ sliceStart frame g s
-  unfolding lay.sliceStart lay.entry
-  starts-at e h = rw h
-
-  -- its end is the next one's start
-  pub ends-next : (t e : ℕ) → t ≡ sliceCount g → s + 1 < t → e ≡ sliceStart frame g (s + 1) → e ≡ sliceEnd frame g s
-  unfolding lay.sliceEnd
-  ends-next t e et l h = rw (lt-ltb (s + 1) (sliceCount g) (rw et at l)) h
-
-  -- the last one's is the frame's end
-  pub ends-last : (t : ℕ) → t ≡ sliceCount g → t ≤ s + 1 → length frame ≡ sliceEnd frame g s
-  unfolding lay.sliceEnd
-  ends-last t et l = rw (le-ltb (s + 1) (sliceCount g) (rw et at l))
 
 -- ---- refusals 5 to 7, in the order of the table: each section has one test more behind it
 
@@ -59,71 +36,59 @@ module _ (frame : List ℕ) (g : Geometry) (t : ℕ) (et : t ≡ sliceCount g) w
   unfolding frm.preambleChecks
   pre-5 h = rw (lt-ltb (length frame) (preambleStart g) (rw start-is at h))
 
-  module _ (l5 : 32 + 4 * (t + 1) ≤ length frame) (e : ℕ) (ee : e ≡ le32 frame 36) where
+  module _ (l5 : 32 + 4 * (t + 1) ≤ length frame) (e : ℕ) (ee : e ≡ preambleEnd frame) where
     not-5 : ltb (length frame) (preambleStart g) ≡ false
     not-5 = le-ltb (length frame) (preambleStart g) (rw start-is at l5)
 
-    end-is : 32 + e ≡ preambleEnd frame
-    unfolding lay.preambleEnd lay.entry
-    end-is = rw ee
-
     -- 6: the preamble ends before it starts
-    pub pre-6a : 32 + e < 32 + 4 * (t + 1) → Refused 6 Nothing ≡ preambleChecks frame g
+    pub pre-6a : e < 32 + 4 * (t + 1) → Refused 6 Nothing ≡ preambleChecks frame g
     unfolding frm.preambleChecks
-    pre-6a h = rw (not-5, ← end-is, lt-ltb (32 + e) (preambleStart g) (rw start-is at h))
+    pre-6a h = rw (not-5, ← ee, lt-ltb (e) (preambleStart g) (rw start-is at h))
 
-    module _ (l6 : 32 + 4 * (t + 1) ≤ 32 + e) where
-      not-6a : ltb (32 + e) (preambleStart g) ≡ false
-      not-6a = le-ltb (32 + e) (preambleStart g) (rw start-is at l6)
+    module _ (l6 : 32 + 4 * (t + 1) ≤ e) where
+      not-6a : ltb (e) (preambleStart g) ≡ false
+      not-6a = le-ltb (e) (preambleStart g) (rw start-is at l6)
 
       -- 6: or past the frame
-      pub pre-6b : length frame < 32 + e → Refused 6 Nothing ≡ preambleChecks frame g
+      pub pre-6b : length frame < e → Refused 6 Nothing ≡ preambleChecks frame g
       unfolding frm.preambleChecks
-      pre-6b h = rw (not-5, ← end-is, not-6a, lt-ltb (length frame) (32 + e) h)
+      pre-6b h = rw (not-5, ← ee, not-6a, lt-ltb (length frame) (e) h)
 
-      module _ (l6b : 32 + e ≤ length frame) where
-        not-6b : ltb (length frame) (32 + e) ≡ false
-        not-6b = le-ltb (length frame) (32 + e) l6b
+      module _ (l6b : e ≤ length frame) where
+        not-6b : ltb (length frame) (e) ≡ false
+        not-6b = le-ltb (length frame) (e) l6b
 
         -- 6: or is empty
-        pub pre-6c : 32 + e ≡ 32 + 4 * (t + 1) → Refused 6 Nothing ≡ preambleChecks frame g
+        pub pre-6c : e ≡ 32 + 4 * (t + 1) → Refused 6 Nothing ≡ preambleChecks frame g
         unfolding frm.preambleChecks
-        pre-6c h = rw (not-5, ← end-is, not-6a, not-6b, eq-eqb (32 + e) (preambleStart g) (h ∙ start-is))
+        pre-6c h = rw (not-5, ← ee, not-6a, not-6b, eq-eqb (e) (preambleStart g) (h ∙ start-is))
 
-        module _ (n6 : 32 + e ≡ 32 + 4 * (t + 1) → ⊥) (b planes : ℕ) (eb : b ≡ getD frame (32 + 4 * (t + 1)) 0) (ep : planes ≡ planeCount g) where
-          not-6c : eqb (32 + e) (preambleStart g) ≡ false
-          not-6c = ne-eqb (32 + e) (preambleStart g) (λ z. n6 (z ∙ sym start-is))
-
-          byte-is : b ≡ countByte frame g
-          unfolding lay.countByte
-          byte-is = rw start-is at eb
+        module _ (n6 : e ≡ 32 + 4 * (t + 1) → ⊥) (b planes : ℕ) (eb : b ≡ countByte frame g) (ep : planes ≡ planeCount g) where
+          not-6c : eqb (e) (preambleStart g) ≡ false
+          not-6c = ne-eqb (e) (preambleStart g) (λ z. n6 (z ∙ sym start-is))
 
           -- refusal 7
           pub pre-7 : (b ≡ planes → ⊥) → Refused 7 Nothing ≡ preambleChecks frame g
           unfolding frm.preambleChecks
-          pre-7 h = rw (not-5, ← end-is, not-6a, not-6b, not-6c, ← byte-is, ne-eqb b (planeCount g) (λ z. h (z ∙ sym ep)))
+          pre-7 h = rw (not-5, ← ee, not-6a, not-6b, not-6c, ← eb, ne-eqb b (planeCount g) (λ z. h (z ∙ sym ep)))
 
           module _ (e7 : b ≡ planes) where
             not-7 : eqb b (planeCount g) ≡ true
             not-7 = eq-eqb b (planeCount g) (e7 ∙ ep)
 
             -- 6: it lacks indices
-            pub pre-6d : 32 + e < 32 + 4 * (t + 1) + 1 + t → Refused 6 Nothing ≡ preambleChecks frame g
+            pub pre-6d : e < 32 + 4 * (t + 1) + 1 + t → Refused 6 Nothing ≡ preambleChecks frame g
             unfolding frm.preambleChecks
             pre-6d h =
-                rw (not-5, ← end-is, not-6a, not-6b, not-6c, ← byte-is, not-7, lt-ltb (32 + e) (preambleStart g + 1 + sliceCount g) (rw et at h))
+                rw (not-5, ← ee, not-6a, not-6b, not-6c, ← eb, not-7, lt-ltb (e) (preambleStart g + 1 + sliceCount g) (rw et at h))
 
             -- none of them
-            pub pre-0 : 32 + 4 * (t + 1) + 1 + t ≤ 32 + e → Done ≡ preambleChecks frame g
+            pub pre-0 : 32 + 4 * (t + 1) + 1 + t ≤ e → Done ≡ preambleChecks frame g
             unfolding frm.preambleChecks
             pre-0 h =
-                rw (not-5, ← end-is, not-6a, not-6b, not-6c, ← byte-is, not-7, le-ltb (32 + e) (preambleStart g + 1 + sliceCount g) (rw et at h))
+                rw (not-5, ← ee, not-6a, not-6b, not-6c, ← eb, not-7, le-ltb (e) (preambleStart g + 1 + sliceCount g) (rw et at h))
 
 pub ruleset preamble = (pre-5, pre-6a, pre-6b, pre-6c, pre-7, pre-6d, pre-0)
-
--- entry 1 is in the frame
-pub entry-in : (g : Geometry) (t l : ℕ) → Sound g → t ≡ sliceCount g → 32 + 4 * (t + 1) ≤ l → 36 + 4 ≤ l
-entry-in g t l ok e h = omega (arith, e, slice-count-some g ok)
 
 -- no refusal up to 7: the plane indices are in the frame
 pub indices-in : (frame : List ℕ) (g : Geometry) → Done ≡ preambleChecks frame g → preambleStart g + 1 + sliceCount g ≤ length frame
@@ -143,12 +108,12 @@ indices-in frame g h =
 module _ (frame : List ℕ) (g : Geometry) where
   -- a refusal up to 7 is the answer
   pub layout-early : (a : Answer) (n : ℕ) (w : Place) → a ≡ preambleChecks frame g → a ≡ Refused n w → Refused n w ≡ layoutChecks frame g
-  unfolding placed.layoutChecks
+  unfolding laid.layoutChecks
   layout-early a n w e h = rw (← e, h)
 
   -- else the indices' answer is
   pub layout-late : (a b : Answer) → a ≡ preambleChecks frame g → a ≡ Done → b ≡ inOrder (sliceCount g) (indexCheck frame g) → b ≡ layoutChecks frame g
-  unfolding placed.layoutChecks
+  unfolding laid.layoutChecks
   layout-late a b e h k = rw (← e, h) k
 
   -- and these are then in the frame
@@ -157,12 +122,12 @@ module _ (frame : List ℕ) (g : Geometry) where
 
   -- none of 5 to 8: the indices are in the frame, and each names its plane
   pub layout-indices : Done ≡ layoutChecks frame g → preambleStart g + 1 + sliceCount g ≤ length frame
-  unfolding placed.layoutChecks
+  unfolding laid.layoutChecks
   layout-indices e = indices-in frame g (first-passed (preambleChecks frame g) _ e)
 
   -- each slice names a plane that has room for it
   pub layout-order : Done ≡ layoutChecks frame g → Done ≡ inOrder (sliceCount g) (indexCheck frame g)
-  unfolding placed.layoutChecks
+  unfolding laid.layoutChecks
   layout-order e = then-passed (preambleChecks frame g) _ e
 
 pub ruleset layouts = (layout-early, layout-late, indices-told, needs)

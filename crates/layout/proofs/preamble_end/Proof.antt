@@ -1,0 +1,23 @@
+use Rattle.layout.proofs.Readers.{preamble-ends}
+use native.Mathlib.Omega.{arith}
+use borrow.Author.Needs.{needs}
+use Rattle.layout.proofs.preamble_end.Statement.{statement}
+use Rattle.layout.proofs.preamble_end.Tie as tie
+use Rattle.layout.proofs.preamble_end.Reads as reads
+use Rattle.layout.proofs.preamble_end.Lts as lts
+use Rattle.layout.proofs.le32_at.Reads as le32-at-reads
+
+-- src/lib.rt:54:10
+le32-at-requires : tie.Need-le32-at-requires
+le32-at-requires c κs = search needs
+
+-- src/lib.rt:54:5
+add-result : tie.Need-add-result
+add-result c = search needs
+
+-- src/lib.rt:51:1
+returns : tie.Need-returns
+returns c = (search preamble-ends, search needs)
+
+pub preamble-end-spec : {M : Type 1} → statement M
+preamble-end-spec = tie.close (tie.spec le32-at-requires add-result returns)

@@ -34,4 +34,4 @@ pub plane-index-once : (κs : Lfts 1) (a : ArgsD plane-index.signature κs) → 
 plane-index-once κs a r₁ r₂ s₁ s₂ p q = p ∙ sym q
 
 pub slice-at-once : (κs : Lfts 1) (a : ArgsD slice-at.signature κs) → Settles (slice-at-reads.Post κs a)
-slice-at-once κs a r₁ r₂ s₁ s₂ p q = p ∙ sym q
+slice-at-once κs a r₁ r₂ s₁ s₂ p q = p .0 ∙ sym (q .0)

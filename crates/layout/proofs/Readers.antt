@@ -41,7 +41,6 @@ module _ (frame : List ℕ) (g : Geometry) (s : ℕ) where
   unfolding lay.sliceEnd
   ends-last t et l = rw (le-ltb (s + 1) (sliceCount g) (rw et at l))
 
-
 -- where the preamble ends
 pub preamble-ends : (frame : List ℕ) (e : ℕ) → e ≡ le32 frame 36 → 32 + e ≡ preambleEnd frame
 unfolding lay.preambleEnd lay.entry

@@ -7,7 +7,7 @@ use geometry::slice_count;
 use scope::Geometry;
 use scope::SliceAt;
 ghost use mathlib.Core.Path.{_≡_};
-ghost use Prim.Native.Nat.{_+_, _%_, _<_, _^_};
+ghost use Prim.Native.Nat.{_+_, _*_, _%_, _<_, _≤_, _^_};
 ghost use lib.Dec.{eqb};
 ghost use lib.ListN.{getD};
 ghost use Rattle.scope.specs.Geometry.{sliceCount};
@@ -115,7 +115,8 @@ pub fn slice_at(frame: &[u8], g: Geometry, s: usize, p: usize, k: usize) -> Slic
     requires { ⌜ Sound g ⌝ }
     requires { ⌜ s < sliceCount g ⌝ }
     requires { ⌜ Placed (now frame) g s p k ⌝ }
-    ensures { λ r. ⌜ r ≡ sliceAt (now (frame .entry)) g s ⌝ }
+    ensures slice { λ r. ⌜ r ≡ sliceAt (now (frame .entry)) g s ⌝ }
+    ensures bounds { λ r. ⌜ (r .start < 4294967328) × (r .rows * r .width ≤ 268435456) ⌝ }
 {
     let start = slice_start(frame, g, s);
     let end = slice_end(frame, g, s);

@@ -1,3 +1,4 @@
+use Rattle.geometry.proofs.Figures.{samples-most}
 use Rattle.layout.proofs.Readers.{slice-small, first-row-fits, slice-is}
 use native.Mathlib.Omega.{arith}
 use borrow.Author.Needs.{needs}
@@ -55,7 +56,7 @@ mul-t14 c = search first-row-fits
 
 -- src/lib.rt:107:1
 returns : tie.Need-returns
-returns c = search slice-is
+returns c = (search slice-is, (search needs, search samples-most))
 
 pub slice-at-spec : {M : Type 1} → statement M
 slice-at-spec =

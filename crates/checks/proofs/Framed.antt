@@ -1,9 +1,8 @@
 -- Document 01, "Refusal numbers", 5 to 14: the loop over the slices, the steps put together in the table's order, that they are the
 -- table's own checks, and what is known once none applies. Assumes nothing.
 use mathlib.Core.Path.{_≡_, refl, sym, ap, _∙_}
-use mathlib.Core.Bool.{Bool, true, false, cond, not, _&&_}
 use mathlib.Core.List.{List}
-use Prim.Native.Nat.{ℕ, zero, suc, _+_, _*_, _≤_, _<_}
+use Prim.Native.Nat.{ℕ, zero, suc, _+_, _≤_, _<_}
 use native.Mathlib.Decide.{ℕ-discrete}
 use native.Mathlib.Omega.{arith}
 use borrow.Author.Tests.{eq-eqb, ne-eqb, lt-ltb, le-ltb, ltb-false}
@@ -14,7 +13,7 @@ use Rattle.scope.specs.Refusals as rfs
 use Rattle.scope.specs.Refusals.{refuseIf, _andThen_, inOrder}
 use Rattle.scope.specs.Geometry.{planeCount, sliceCount, lengthsOf}
 use Rattle.scope.specs.Layout as lay
-use Rattle.scope.specs.Layout.{preambleStart, planeIndex, sliceAt}
+use Rattle.scope.specs.Layout.{planeIndex, sliceAt}
 use Rattle.scope.specs.Words.{longest, shortest}
 use Rattle.scope.specs.Frame as frm
 use Rattle.scope.specs.Frame.{preambleChecks, indexCheck, lengthCheck, sliceLengths, needOfAll, roomCheck, sliceCheck, frameChecks}
@@ -29,7 +28,7 @@ use Rattle.refusals.proofs.InOrder.{first-passed, then-passed, if-passed, each-
 use Rattle.layout.proofs.Going.{Going, going-step, going-refused}
 use Rattle.preamble.specs.Layout as laid
 use Rattle.preamble.specs.Layout.{layoutChecks}
-use Rattle.preamble.proofs.Checks.{layout-indices, layout-order}
+use Rattle.preamble.proofs.Checks.{layout-order}
 use Rattle.checks.specs.Slices as slc
 use Rattle.checks.specs.Slices.{sliceCheckBy, slicesBy, wordsBy, framedBy, Shortests}
 use Rattle.checks.proofs.Shortness.{shortest-none, longest-none}

@@ -1,9 +1,9 @@
 -- Document 01, "Refusal numbers", 12 to 14 of a slice before any is read: each as src/lib.rt finds it, and what is known of a slice
 -- that has none. Assumes nothing.
-use mathlib.Core.Path.{_≡_, sym, ap, _∙_}
+use mathlib.Core.Path.{_≡_, ap}
 use mathlib.Core.Bool.{Bool, true, false, not, _&&_}
 use mathlib.Core.List.{List}
-use Prim.Native.Nat.{ℕ, _+_, _-_, _*_, _/_, _%_, _≤_, _<_}
+use Prim.Native.Nat.{ℕ, _+_, _-_, _*_, _/_, _≤_, _<_}
 use native.Mathlib.Nat.{mul-le-mul}
 use native.Mathlib.Omega.{arith}
 use mir.Syntax.{w64}
@@ -11,21 +11,18 @@ use mir.Val.{Fits}
 use borrow.Author.Tests.{eq-eqb, ne-eqb, eqb-false, lt-ltb, le-ltb, ltb-false}
 use borrow.Author.Needs.{needs}
 use lib.Dec.{eqb, ltb}
-use lib.ListN.{length, getD}
+use lib.ListN.{length}
 use Rattle.scope.specs.Base.{overUp}
 use Rattle.scope.specs.Refusals.{refuseIf, _andThen_, inOrder}
-use Rattle.scope.specs.Geometry.{planeCount, sliceCount, planeWidth, rowsAt, lengthsOf}
-use Rattle.scope.specs.Layout as lay
+use Rattle.scope.specs.Geometry.{sliceCount}
 use Rattle.scope.specs.Layout.{planeIndex, sliceStart, sliceEnd, isRaw, samplesIn}
-use Rattle.scope.specs.Words.{longest, shortest}
+use Rattle.scope.specs.Words.{longest}
 use Rattle.scope.specs.Frame as frm
 use Rattle.scope.specs.Frame.{sliceLengths, fewestBytes, sliceCheck}
 use Rattle.scope.specs.declared.Geometry.{Geometry}
 use Rattle.scope.specs.declared.Place.the-variants.{Slice, Plane}
 use Rattle.scope.specs.declared.Answer.{Answer}
 use Rattle.scope.specs.declared.Answer.the-variants.{Done, Refused}
-use Rattle.geometry.proofs.Places.{planes-most}
-use Rattle.layout.specs.Placed.{Placed}
 use Rattle.refusals.proofs.InOrder.{first-passed, then-passed, if-passed, each-passed}
 use Rattle.checks.specs.Slices as slc
 use Rattle.checks.specs.Slices.{sizeCheck, sliceRule}

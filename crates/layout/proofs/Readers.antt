@@ -4,14 +4,12 @@ use mathlib.Core.Bool.{Bool}
 use mathlib.Core.List.{List}
 use Prim.Native.Nat.{ℕ, _+_, _*_, _%_, _≤_, _<_}
 use native.Mathlib.Omega.{arith}
-use borrow.Author.Tests.{eq-eqb, ne-eqb, lt-ltb, le-ltb, ltb-false}
-use borrow.Author.Needs.{needs}
-use lib.Dec.{eqb, ltb}
+use borrow.Author.Tests.{lt-ltb, le-ltb}
+use lib.Dec.{eqb}
 use lib.ListN.{length, getD, List·getD-eq-default}
 use Rattle.scope.specs.Geometry.{sliceCount, planeWidth, planeSliceHeight, rowsAt}
 use Rattle.scope.specs.Layout as lay
 use Rattle.scope.specs.Layout.{le32, preambleEnd, countByte, planeIndex, placeInPlane, sliceStart, sliceEnd, sliceAt}
-use Rattle.scope.specs.declared.SliceAt.{SliceAt}
 use Rattle.geometry.specs.Sound.{Sound}
 use Rattle.geometry.proofs.Places.{slice-count-most}
 use Rattle.geometry.proofs.Figures.{first-fits}

@@ -1,13 +1,12 @@
 -- Document 01, "Layout" and refusal 8: the slices in wire order. Each names a plane below P with fewer than K before it, and so the
 -- T = P·K of them are K of each plane. Assumes nothing.
-use mathlib.Core.Path.{_≡_, refl, sym, ap, _∙_}
+use mathlib.Core.Path.{_≡_, refl, sym, _∙_}
 use mathlib.Core.List.{List, [], _∷_}
-use Prim.Native.Nat.{ℕ, zero, suc, _+_, _*_, _≤_, _<_}
+use Prim.Native.Nat.{ℕ, zero, suc, _+_, _≤_, _<_}
 use native.Mathlib.Decide.{ℕ-discrete}
 use native.Mathlib.Numerals.{add-one}
 use native.Mathlib.Omega.{arith}
-use borrow.Author.Tests.{eq-eqb, ne-eqb, le-leb, lt-leb}
-use borrow.Author.Needs.{needs}
+use borrow.Author.Tests.{eq-eqb, ne-eqb}
 use lib.ListN.{length, getD, set, length-set}
 use lib.Seq.{getD-set-same, getD-set-other}
 use Rattle.scope.specs.Base.{sumBelow}
@@ -15,16 +14,13 @@ use Rattle.scope.specs.Refusals.{inOrder}
 use Rattle.scope.specs.Geometry.{planeCount, slicesPerPlane, sliceCount}
 use Rattle.scope.specs.Layout as lay
 use Rattle.scope.specs.Layout.{planeIndex, namedBefore}
-use Rattle.scope.specs.Frame as frm
 use Rattle.scope.specs.Frame.{indexCheck}
 use Rattle.scope.specs.declared.Geometry.{Geometry}
-use Rattle.scope.specs.declared.Place.the-variants.{Slice}
-use Rattle.scope.specs.declared.Answer.the-variants.{Done, Refused}
+use Rattle.scope.specs.declared.Answer.the-variants.{Done}
 use Rattle.geometry.proofs.Counts.{all-full, sum-one-more, sum-none}
 use Rattle.refusals.proofs.Rows.{index-below, index-room}
-use Rattle.refusals.proofs.InOrder.{none-yet, one-passed, one-refused, each-passed}
+use Rattle.refusals.proofs.InOrder.{each-passed}
 use Rattle.geometry.proofs.Four.{four-zeros}
-use Rattle.geometry.proofs.Places.{planes-most}
 
 -- the array of counts
 pub record Counted (frame : List ℕ) (g : Geometry) (seen : List ℕ) (s : ℕ) : Type 0 where

@@ -2,12 +2,9 @@
 use mathlib.Core.Path.{_≡_}
 use Prim.Native.Nat.{ℕ, _<_}
 use mathlib.Core.List.{List}
-use Rattle.scope.specs.Refusals.{_andThen_, inOrder}
-use Rattle.scope.specs.Geometry.{planeCount, slicesPerPlane, sliceCount}
+use Rattle.scope.specs.Geometry.{planeCount, slicesPerPlane}
 use Rattle.scope.specs.Layout.{planeIndex, namedBefore}
-use Rattle.scope.specs.Frame.{preambleChecks, indexCheck}
 use Rattle.scope.specs.declared.Geometry.{Geometry}
-use Rattle.scope.specs.declared.Answer.{Answer}
 
 -- slice s is place k of plane p
 pub record Placed (frame : List ℕ) (g : Geometry) (s p k : ℕ) : Type 0 where

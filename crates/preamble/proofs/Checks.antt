@@ -7,15 +7,12 @@ use native.Mathlib.Omega.{arith}
 use borrow.Author.Tests.{eq-eqb, ne-eqb, lt-ltb, le-ltb, ltb-false}
 use borrow.Author.Needs.{needs}
 use lib.Dec.{eqb, ltb}
-use lib.ListN.{length, getD}
+use lib.ListN.{length}
 use Rattle.scope.specs.Refusals.{refuseIf, inOrder}
 use Rattle.scope.specs.Geometry.{planeCount, sliceCount}
-use Rattle.scope.specs.Layout as lay
-use Rattle.scope.specs.Layout.{le32, preambleStart, preambleEnd, countByte, sliceStart, sliceEnd}
+use Rattle.scope.specs.Layout.{preambleStart, preambleEnd, countByte}
 use Rattle.scope.specs.Frame as frm
 use Rattle.scope.specs.Frame.{preambleChecks, indexCheck}
-use Rattle.geometry.specs.Sound.{Sound}
-use Rattle.geometry.proofs.Places.{slice-count-some}
 use Rattle.preamble.specs.Layout as laid
 use Rattle.preamble.specs.Layout.{layoutChecks}
 use Rattle.refusals.proofs.InOrder.{first-passed, then-passed, if-passed}

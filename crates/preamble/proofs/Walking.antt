@@ -1,15 +1,11 @@
 -- Document 01, refusal 8: the loop over the plane indices. Assumes nothing.
-use mathlib.Core.Path.{_≡_, refl, sym, ap, _∙_}
+use mathlib.Core.Path.{_≡_, refl, ap, _∙_}
 use mathlib.Core.List.{List, [], _∷_}
-use Prim.Native.Nat.{ℕ, zero, suc, _+_, _*_, _≤_, _<_}
-use native.Mathlib.Decide.{ℕ-discrete}
-use native.Mathlib.Numerals.{add-one}
+use Prim.Native.Nat.{ℕ, _+_, _≤_, _<_}
 use native.Mathlib.Omega.{arith}
-use borrow.Author.Tests.{eq-eqb, ne-eqb, le-leb, lt-leb}
+use borrow.Author.Tests.{le-leb, lt-leb}
 use borrow.Author.Needs.{needs}
 use lib.ListN.{length, getD, set, length-set}
-use lib.Seq.{getD-set-same, getD-set-other}
-use Rattle.scope.specs.Base.{sumBelow}
 use Rattle.scope.specs.Refusals.{inOrder}
 use Rattle.scope.specs.Geometry.{planeCount, slicesPerPlane, sliceCount}
 use Rattle.scope.specs.Layout as lay
@@ -20,9 +16,7 @@ use Rattle.scope.specs.declared.Geometry.{Geometry}
 use Rattle.scope.specs.declared.Place.the-variants.{Slice}
 use Rattle.scope.specs.declared.Answer.the-variants.{Done, Refused}
 use Rattle.layout.proofs.Slices.{Counted, counted-start, counted-more}
-use Rattle.refusals.proofs.Rows.{index-below, index-room}
-use Rattle.refusals.proofs.InOrder.{none-yet, one-passed, one-refused, each-passed}
-use Rattle.geometry.proofs.Four.{four-zeros}
+use Rattle.refusals.proofs.InOrder.{none-yet, one-passed, one-refused}
 use Rattle.geometry.proofs.Places.{planes-most}
 
 -- the loop of the check: what it has found before slice s

@@ -1,10 +1,8 @@
 -- Document 01, "Refusal numbers": refusals 5 to 8 together. Assumes nothing.
-use mathlib.Core.Path.{_≡_}
-use Prim.Native.Nat.{ℕ, _<_}
+use Prim.Native.Nat.{ℕ}
 use mathlib.Core.List.{List}
 use Rattle.scope.specs.Refusals.{_andThen_, inOrder}
-use Rattle.scope.specs.Geometry.{planeCount, slicesPerPlane, sliceCount}
-use Rattle.scope.specs.Layout.{planeIndex, namedBefore}
+use Rattle.scope.specs.Geometry.{sliceCount}
 use Rattle.scope.specs.Frame.{preambleChecks, indexCheck}
 use Rattle.scope.specs.declared.Geometry.{Geometry}
 use Rattle.scope.specs.declared.Answer.{Answer}

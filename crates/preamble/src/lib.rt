@@ -1,8 +1,8 @@
 // Document 01, "Refusal numbers", 5 to 8: whether the frame's entries and its preamble are there, and whether every plane gets its K
 // slices. Nothing is written.
 use geometry::plane_count;
-use geometry::slice_count;
-use geometry::slices_per_plane;
+use sides::slice_count;
+use sides::slices_per_plane;
 use layout::count_byte;
 use layout::plane_index;
 use layout::preamble_end;

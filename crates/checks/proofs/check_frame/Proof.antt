@@ -1,12 +1,7 @@
 use Rattle.checks.proofs.Framed.{frames}
-use native.Mathlib.Omega.{arith}
 use borrow.Author.Needs.{needs}
 use Rattle.checks.proofs.check_frame.Statement.{statement}
 use Rattle.checks.proofs.check_frame.Tie as tie
-use Rattle.checks.proofs.check_frame.Reads as reads
-use Rattle.checks.proofs.check_frame.Lts as lts
-use Rattle.checks.proofs.check_words.Reads as check-words-reads
-use Rattle.preamble.proofs.check_layout.Reads as check-layout-reads
 
 -- src/lib.rt:113:9
 check-layout-requires : tie.Need-check-layout-requires

@@ -1,10 +1,6 @@
 use Rattle.checks.proofs.Framed.{room-short, room-enough}
-use borrow.Author.Needs.{needs}
-use native.Mathlib.Omega.{arith}
 use Rattle.checks.proofs.check_room.Statement.{statement}
 use Rattle.checks.proofs.check_room.Tie as tie
-use Rattle.checks.proofs.check_room.Reads as reads
-use Rattle.checks.proofs.check_room.Lts as lts
 
 -- src/lib.rt:97:9
 returns : tie.Need-returns

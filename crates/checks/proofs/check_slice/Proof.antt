@@ -1,11 +1,7 @@
 use Rattle.checks.proofs.Sliced.{slicings}
-use native.Mathlib.Omega.{arith}
 use borrow.Author.Needs.{needs}
 use Rattle.checks.proofs.check_slice.Statement.{statement}
 use Rattle.checks.proofs.check_slice.Tie as tie
-use Rattle.checks.proofs.check_slice.Reads as reads
-use Rattle.checks.proofs.check_slice.Lts as lts
-use Rattle.checks.proofs.check_size.Reads as check-size-reads
 
 -- src/lib.rt:44:9
 returns : tie.Need-returns

@@ -3,15 +3,8 @@ use Rattle.layout.proofs.Going.{Going, goes, going-placed, going-done}
 use Rattle.checks.specs.Slices.{slicesBy}
 use Rattle.checks.proofs.Framed.{slice-step, slice-refused, short-small}
 use borrow.Author.Needs.{needs}
-use native.Mathlib.Omega.{arith}
 use Rattle.checks.proofs.check_slices.Statement.{statement}
 use Rattle.checks.proofs.check_slices.Tie as tie
-use Rattle.checks.proofs.check_slices.Reads as reads
-use Rattle.checks.proofs.check_slices.Lts as lts
-use Rattle.checks.proofs.check_slice.Reads as check-slice-reads
-use Rattle.geometry.proofs.slice_count.Reads as slice-count-reads
-use Rattle.layout.proofs.plane_index.Reads as plane-index-reads
-use Rattle.layout.proofs.slice_at.Reads as slice-at-reads
 
 abbrev Inv-loop : tie.InvT-loop
 Inv-loop frame g shortest t seen₀ s₀ seen s = Going (slicesBy frame g shortest) frame g t seen s

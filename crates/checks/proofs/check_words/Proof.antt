@@ -1,11 +1,7 @@
 use Rattle.checks.proofs.Framed.{wordings}
-use native.Mathlib.Omega.{arith}
 use borrow.Author.Needs.{needs}
 use Rattle.checks.proofs.check_words.Statement.{statement}
 use Rattle.checks.proofs.check_words.Tie as tie
-use Rattle.checks.proofs.check_words.Reads as reads
-use Rattle.checks.proofs.check_words.Lts as lts
-use Rattle.checks.proofs.check_slices.Reads as check-slices-reads
 
 -- src/lib.rt:99:25
 enum-known-words : tie.Need-enum-known-words

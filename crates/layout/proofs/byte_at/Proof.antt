@@ -1,10 +1,7 @@
 use Rattle.layout.proofs.Readers.{none-there}
-use native.Mathlib.Omega.{arith}
 use borrow.Author.Needs.{needs}
 use Rattle.layout.proofs.byte_at.Statement.{statement}
 use Rattle.layout.proofs.byte_at.Tie as tie
-use Rattle.layout.proofs.byte_at.Reads as reads
-use Rattle.layout.proofs.byte_at.Lts as lts
 
 -- src/lib.rt:25:16
 shared-slice-read-result : tie.Need-shared-slice-read-result

@@ -1,12 +1,7 @@
 use Rattle.layout.proofs.Readers.{count-is}
-use native.Mathlib.Omega.{arith}
 use borrow.Author.Needs.{needs}
 use Rattle.layout.proofs.count_byte.Statement.{statement}
 use Rattle.layout.proofs.count_byte.Tie as tie
-use Rattle.layout.proofs.count_byte.Reads as reads
-use Rattle.layout.proofs.count_byte.Lts as lts
-use Rattle.geometry.proofs.slice_count.Reads as slice-count-reads
-use Rattle.layout.proofs.number_at.Reads as number-at-reads
 
 -- src/lib.rt:69:9
 slice-count-requires : tie.Need-slice-count-requires

@@ -1,11 +1,7 @@
 use Rattle.layout.proofs.Readers.{le32-is}
-use native.Mathlib.Omega.{arith}
 use borrow.Author.Needs.{needs}
 use Rattle.layout.proofs.le32_at.Statement.{statement}
 use Rattle.layout.proofs.le32_at.Tie as tie
-use Rattle.layout.proofs.le32_at.Reads as reads
-use Rattle.layout.proofs.le32_at.Lts as lts
-use Rattle.layout.proofs.number_at.Reads as number-at-reads
 
 -- src/lib.rt:48:9
 number-at-requires : tie.Need-number-at-requires

@@ -1,12 +1,7 @@
 use Rattle.layout.proofs.Readers.{index-is}
-use native.Mathlib.Omega.{arith}
 use borrow.Author.Needs.{needs}
 use Rattle.layout.proofs.plane_index.Statement.{statement}
 use Rattle.layout.proofs.plane_index.Tie as tie
-use Rattle.layout.proofs.plane_index.Reads as reads
-use Rattle.layout.proofs.plane_index.Lts as lts
-use Rattle.geometry.proofs.slice_count.Reads as slice-count-reads
-use Rattle.layout.proofs.number_at.Reads as number-at-reads
 
 -- src/lib.rt:79:9
 slice-count-requires : tie.Need-slice-count-requires

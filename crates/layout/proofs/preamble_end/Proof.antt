@@ -1,11 +1,7 @@
 use Rattle.layout.proofs.Readers.{preamble-ends}
-use native.Mathlib.Omega.{arith}
 use borrow.Author.Needs.{needs}
 use Rattle.layout.proofs.preamble_end.Statement.{statement}
 use Rattle.layout.proofs.preamble_end.Tie as tie
-use Rattle.layout.proofs.preamble_end.Reads as reads
-use Rattle.layout.proofs.preamble_end.Lts as lts
-use Rattle.layout.proofs.le32_at.Reads as le32-at-reads
 
 -- src/lib.rt:54:10
 le32-at-requires : tie.Need-le32-at-requires

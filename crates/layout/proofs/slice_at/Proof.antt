@@ -1,18 +1,8 @@
 use Rattle.geometry.proofs.Figures.{samples-most}
 use Rattle.layout.proofs.Readers.{slice-small, first-row-fits, slice-is}
-use native.Mathlib.Omega.{arith}
 use borrow.Author.Needs.{needs}
 use Rattle.layout.proofs.slice_at.Statement.{statement}
 use Rattle.layout.proofs.slice_at.Tie as tie
-use Rattle.layout.proofs.slice_at.Reads as reads
-use Rattle.layout.proofs.slice_at.Lts as lts
-use Rattle.geometry.proofs.place_rows.Reads as place-rows-reads
-use Rattle.geometry.proofs.plane_slice_height.Reads as plane-slice-height-reads
-use Rattle.geometry.proofs.plane_width.Reads as plane-width-reads
-use Rattle.layout.proofs.byte_at.Reads as byte-at-reads
-use Rattle.layout.proofs.is_raw.Reads as is-raw-reads
-use Rattle.layout.proofs.slice_end.Reads as slice-end-reads
-use Rattle.layout.proofs.slice_start.Reads as slice-start-reads
 
 -- src/lib.rt:113:9
 slice-start-requires : tie.Need-slice-start-requires

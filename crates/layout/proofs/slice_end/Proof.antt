@@ -1,12 +1,7 @@
 use Rattle.layout.proofs.Readers.{ends-next, ends-last}
-use native.Mathlib.Omega.{arith}
 use borrow.Author.Needs.{needs}
 use Rattle.layout.proofs.slice_end.Statement.{statement}
 use Rattle.layout.proofs.slice_end.Tie as tie
-use Rattle.layout.proofs.slice_end.Reads as reads
-use Rattle.layout.proofs.slice_end.Lts as lts
-use Rattle.geometry.proofs.slice_count.Reads as slice-count-reads
-use Rattle.layout.proofs.slice_start.Reads as slice-start-reads
 
 -- src/lib.rt:92:9
 slice-count-requires : tie.Need-slice-count-requires

@@ -1,11 +1,7 @@
 use Rattle.layout.proofs.Readers.{starts-at}
-use native.Mathlib.Omega.{arith}
 use borrow.Author.Needs.{needs}
 use Rattle.layout.proofs.slice_start.Statement.{statement}
 use Rattle.layout.proofs.slice_start.Tie as tie
-use Rattle.layout.proofs.slice_start.Reads as reads
-use Rattle.layout.proofs.slice_start.Lts as lts
-use Rattle.layout.proofs.le32_at.Reads as le32-at-reads
 
 -- src/lib.rt:83:35
 add-le32-at : tie.Need-add-le32-at

@@ -1,5 +1,8 @@
 #!/usr/bin/env python3
-"""Twin crates: the 16-bit crate is the 8-bit crate's text under the substitutions of tools/twins.txt.
+"""Twin crates: the 16-bit crate is the 8-bit crate's text under the substitutions of tools/twins.txt, in their order.
+
+A line is `8-bit text => 16-bit text`; `\\n` stands for a line's end. At 16 bits the checker asks one need more for each element that is
+read or stored, its place times two: those lines are substitutions too.
 
 twins.py check          says which files differ from what the substitutions give (exit 1 if any does)
 twins.py write NAME8    writes the twin of NAME8
@@ -16,7 +19,7 @@ def pairs():
         if line.startswith("# crates "):
             found.append((*line.split()[2:4], []))
         elif " => " in line:
-            found[-1][2].append(line.split(" => "))
+            found[-1][2].append([side.replace("\\n", "\n") for side in line.split(" => ")])
     return found
 
 

@@ -6,44 +6,26 @@ use contract.Lifetimes.{Lfts}
 use borrow.Fn.World.{ArgsD, ResD}
 use denote.Triple.Clauses.{AtExit}
 use denote.Ref.{now}
-use Rattle.memory.proofs.clear_u8 as clear-u8
-use Rattle.memory.proofs.clear_u8.Reads as clear-u8-reads
-use Rattle.memory.proofs.clear_u16 as clear-u16
-use Rattle.memory.proofs.clear_u16.Reads as clear-u16-reads
 use Rattle.memory.proofs.clear_u32 as clear-u32
 use Rattle.memory.proofs.clear_u32.Reads as clear-u32-reads
-use Rattle.memory.proofs.add_u8 as add-u8
-use Rattle.memory.proofs.add_u8.Reads as add-u8-reads
-use Rattle.memory.proofs.add_u16 as add-u16
-use Rattle.memory.proofs.add_u16.Reads as add-u16-reads
 use Rattle.memory.proofs.modulus as modulus
 use Rattle.memory.proofs.modulus.Reads as modulus-reads
+use Rattle.memory.proofs.sum_u8 as sum-u8
+use Rattle.memory.proofs.sum_u8.Reads as sum-u8-reads
 use Rattle.memory.proofs.sum_u16 as sum-u16
 use Rattle.memory.proofs.sum_u16.Reads as sum-u16-reads
-
-pub clear-u8-once : (κs : Lfts 1) (a : ArgsD clear-u8.signature κs) (r₁ r₂ : ResD clear-u8.signature κs) (s₁ s₂ : AtExit clear-u8.ended κs)
-    → clear-u8-reads.Post κs a r₁ s₁ → clear-u8-reads.Post κs a r₂ s₂ → now (s₁ .0) ≡ now (s₂ .0)
-clear-u8-once κs a r₁ r₂ s₁ s₂ p q = p ∙ sym q
-
-pub clear-u16-once : (κs : Lfts 1) (a : ArgsD clear-u16.signature κs) (r₁ r₂ : ResD clear-u16.signature κs) (s₁ s₂ : AtExit clear-u16.ended κs)
-    → clear-u16-reads.Post κs a r₁ s₁ → clear-u16-reads.Post κs a r₂ s₂ → now (s₁ .0) ≡ now (s₂ .0)
-clear-u16-once κs a r₁ r₂ s₁ s₂ p q = p ∙ sym q
 
 pub clear-u32-once : (κs : Lfts 1) (a : ArgsD clear-u32.signature κs) (r₁ r₂ : ResD clear-u32.signature κs) (s₁ s₂ : AtExit clear-u32.ended κs)
     → clear-u32-reads.Post κs a r₁ s₁ → clear-u32-reads.Post κs a r₂ s₂ → now (s₁ .0) ≡ now (s₂ .0)
 clear-u32-once κs a r₁ r₂ s₁ s₂ p q = p ∙ sym q
 
-pub add-u8-once : (κs : Lfts 1) (a : ArgsD add-u8.signature κs) (r₁ r₂ : ResD add-u8.signature κs) (s₁ s₂ : AtExit add-u8.ended κs)
-    → add-u8-reads.Post κs a r₁ s₁ → add-u8-reads.Post κs a r₂ s₂ → now (s₁ .0) ≡ now (s₂ .0)
-add-u8-once κs a r₁ r₂ s₁ s₂ p q = p ∙ sym q
-
-pub add-u16-once : (κs : Lfts 1) (a : ArgsD add-u16.signature κs) (r₁ r₂ : ResD add-u16.signature κs) (s₁ s₂ : AtExit add-u16.ended κs)
-    → add-u16-reads.Post κs a r₁ s₁ → add-u16-reads.Post κs a r₂ s₂ → now (s₁ .0) ≡ now (s₂ .0)
-add-u16-once κs a r₁ r₂ s₁ s₂ p q = p ∙ sym q
-
 pub modulus-once : (κs : Lfts 0) (a : ArgsD modulus.signature κs) (r₁ r₂ : ResD modulus.signature κs) (s₁ s₂ : AtExit modulus.ended κs)
     → modulus-reads.Post κs a r₁ s₁ → modulus-reads.Post κs a r₂ s₂ → r₁ ≡ r₂
 modulus-once κs a r₁ r₂ s₁ s₂ p q = p ∙ sym q
+
+pub sum-u8-once : (κs : Lfts 0) (a : ArgsD sum-u8.signature κs) (r₁ r₂ : ResD sum-u8.signature κs) (s₁ s₂ : AtExit sum-u8.ended κs)
+    → sum-u8-reads.Post κs a r₁ s₁ → sum-u8-reads.Post κs a r₂ s₂ → r₁ ≡ r₂
+sum-u8-once κs a r₁ r₂ s₁ s₂ p q = p ∙ sym q
 
 pub sum-u16-once : (κs : Lfts 0) (a : ArgsD sum-u16.signature κs) (r₁ r₂ : ResD sum-u16.signature κs) (s₁ s₂ : AtExit sum-u16.ended κs)
     → sum-u16-reads.Post κs a r₁ s₁ → sum-u16-reads.Post κs a r₂ s₂ → r₁ ≡ r₂

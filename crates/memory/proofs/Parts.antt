@@ -55,3 +55,21 @@ put-length l a n xs h e = omega (arith, length-append (take a l) (xs ++ drop n (
 -- and so the whole keeps its length where it is
 pub put-keeps : (l : List ℕ) (a n : ℕ) (xs : List ℕ) → length xs ≡ n → a + n ≤ length l → length (replaced l a n xs) ≡ length l
 put-keeps l a n xs e h = simp (length-append, length-take, length-drop) (omega arith)
+
+-- a part is a shorter one and what follows it
+pub part-add : (l : List ℕ) (at m n : ℕ) → part l at (m + n) ≡ part l at m ++ part l (at + m) n
+part-add l at m n = take-add m n (drop at l) ∙ rw (drop-drop m at l)
+
+-- a part that is replaced, and then the one after it
+pub put-more : (l : List ℕ) (a m n : ℕ) (xs ys : List ℕ) → length xs ≡ m → a + m ≤ length l
+    → replaced (replaced l a m xs) (a + m) n ys ≡ replaced l a (m + n) (xs ++ ys)
+put-more l a m n xs ys e h =
+    let t : length (take a l ++ xs) ≡ a + m = length-append (take a l) xs ∙ rw (length-take-le a l (omega arith), e) in
+    rw (
+      ← append-assoc (take a l) xs (drop m (drop a l)),
+      take-at (take a l ++ xs) (drop m (drop a l)) (a + m) t,
+      drop-at (take a l ++ xs) (drop m (drop a l)) (a + m) t,
+      drop-drop n m (drop a l),
+    )
+    (append-assoc (take a l) xs (ys ++ drop (m + n) (drop a l))
+    ∙ ap (λ (z : List ℕ). take a l ++ z) (sym (append-assoc xs ys (drop (m + n) (drop a l)))))

@@ -37,5 +37,9 @@ mod-of-wrapped n depth h =
 pub wrapped-mod : (n w m depth : ℕ) → w ≡ n % 2 ^ 16 → m ≡ 2 ^ depth → depth ≤ 16 → w % m ≡ n % 2 ^ depth
 wrapped-mod n w m depth ew em h = rw (ew, em) (mod-of-wrapped n depth h)
 
+-- what wrapped at 8 bits is the remainder at a depth that is 8
+pub wrapped-eight : (n w depth : ℕ) → w ≡ n % 2 ^ 8 → depth ≡ 8 → w ≡ n % 2 ^ depth
+wrapped-eight n w depth ew e = rw e ew
+
 -- what the answers of a function that takes sums modulo 2^depth search with
-pub ruleset powers = (power-shift, power-pos, power-cap, mod-under, wrapped-mod, needs)
+pub ruleset powers = (power-shift, power-pos, power-cap, mod-under, wrapped-mod, wrapped-eight, needs)

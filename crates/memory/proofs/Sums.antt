@@ -35,15 +35,22 @@ add-step depth from to n xs s i v a h l k e =
     (at-step (added depth from to) xs s (to + i) a v (omega arith)
     (rw (le-ltb (to + i) to t, q, getD-take (to + i) s (from + i) 0 b) e))
 
--- a pair more at the end
-plus-more : (depth x y : ℕ) (xs ys : List ℕ) → length xs ≡ length ys
-    → plus depth (xs ++ (x ∷ [])) (ys ++ (y ∷ [])) ≡ plus depth xs ys ++ ((x + y) % 2 ^ depth ∷ [])
+-- as many sums as pairs
+pub plus-length : (depth : ℕ) (xs ys : List ℕ) → length xs ≡ length ys → length (plus depth xs ys) ≡ length xs
 unfolding plus
-plus-more depth x y [] [] e = refl
-plus-more depth x y [] (b ∷ ys) e = absurd (omega arith)
-plus-more depth x y (a ∷ xs) [] e = absurd (omega arith)
-plus-more depth x y (a ∷ xs) (b ∷ ys) e =
-    ap (λ (l : List ℕ). (a + b) % 2 ^ depth ∷ l) (plus-more depth x y xs ys (suc-inj e))
+plus-length depth [] ys e = refl
+plus-length depth (x ∷ xs) [] e = absurd (omega arith)
+plus-length depth (x ∷ xs) (y ∷ ys) e = ap suc (plus-length depth xs ys (suc-inj e))
+
+-- pairs after pairs
+pub plus-append : (depth : ℕ) (xs ys xs′ ys′ : List ℕ) → length xs ≡ length ys
+    → plus depth (xs ++ xs′) (ys ++ ys′) ≡ plus depth xs ys ++ plus depth xs′ ys′
+unfolding plus
+plus-append depth [] [] xs′ ys′ e = refl
+plus-append depth [] (b ∷ ys) xs′ ys′ e = absurd (omega arith)
+plus-append depth (a ∷ xs) [] xs′ ys′ e = absurd (omega arith)
+plus-append depth (a ∷ xs) (b ∷ ys) xs′ ys′ e =
+    ap (λ (l : List ℕ). (a + b) % 2 ^ depth ∷ l) (plus-append depth xs ys xs′ ys′ (suc-inj e))
 
 module _ (depth from to : ℕ) (xs : List ℕ) where
   -- what stands before `to` stays
@@ -81,7 +88,7 @@ module _ (depth from to : ℕ) (xs : List ℕ) where
       ∙ rw (
         part-next xs to n (omega arith),
         part-next xs from n (omega arith),
-        plus-more depth (getD xs (to + n) 0) (getD xs (from + n) 0) (part xs to n) (part xs from n)
+        plus-append depth (part xs to n) (part xs from n) (getD xs (to + n) 0 ∷ []) (getD xs (from + n) 0 ∷ [])
             (length-part xs to n (omega arith) ∙ sym (length-part xs from n (omega arith))),
         sums-grown n (omega arith) (omega arith),
       )

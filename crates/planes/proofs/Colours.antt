@@ -3,16 +3,18 @@
 use mathlib.Core.Path.{_≡_, refl, sym, ap, _∙_}
 use mathlib.Core.Bool.{Bool, true, false, cond}
 use mathlib.Core.List.{List, [], _∷_}
-use Prim.Native.Nat.{ℕ, zero, suc, _+_, _-_, _≤_, _<_}
+use Prim.Native.Nat.{ℕ, zero, suc, _+_, _-_, _*_, _≤_, _<_}
+use native.Mathlib.Nat.{mul-comm, mul-le-mul}
 use native.Mathlib.Omega.{arith}
 use borrow.Author.Tests.{ne-eqb}
 use lib.Dec.{eqb}
+use mir.Syntax.{w64}
+use mir.Val.{Fits}
 use lib.ListN.{length, length-take, length-drop}
 use Rattle.scope.specs.Base as base
 use Rattle.scope.specs.Base.{part, replaced, sumBelow}
 use Rattle.scope.specs.Geometry as geo
-use Rattle.scope.specs.Geometry.{correlated, planeCount, planeSamples, allSamples, swapped, orderOf, planeStart}
-use Rattle.scope.specs.Prediction as pred
+use Rattle.scope.specs.Geometry.{correlated, planeCount, planeWidth, planeHeight, planeSamples, allSamples, swapped, orderOf, planeStart}
 use Rattle.scope.specs.Prediction.{plus}
 use Rattle.scope.specs.Frame as frm
 use Rattle.scope.specs.Frame.{wirePlane, bufferPlane, planesUpTo, pictureOf}
@@ -22,13 +24,11 @@ use Rattle.geometry.proofs.Order.{Order, sum-upto, stretch-in}
 use Rattle.geometry.proofs.Places.{order, sizes-alike, correlated-three}
 use Rattle.planes.specs.Standing.{Planes, withGreen, coloured}
 use Rattle.memory.proofs.Parts.{put-keeps}
+use Rattle.memory.proofs.Sums.{plus-length}
+use Rattle.views.specs.declared.Stretch.{Stretch}
+use Rattle.planes.specs.Adding.{addedRows, Apart}
+use Rattle.planes.proofs.Adding.{added-plain}
 use Rattle.planes.proofs.Holds.{Holds, holds-put, holds-all}
-
-pub plus-length : (d : ℕ) (xs ys : List ℕ) → length xs ≡ length ys → length (plus d xs ys) ≡ length xs
-unfolding pred.plus
-plus-length d [] ys e = refl
-plus-length d (x ∷ xs) [] e = omega (arith, e)
-plus-length d (x ∷ xs) (y ∷ ys) e = ap suc (plus-length d xs ys (omega (arith, e)))
 
 -- adding keeps the buffer's length
 pub green-keeps : (d at n : ℕ) (xs : List ℕ) → n ≤ at → at + n ≤ length xs → length (withGreen d at n xs) ≡ length xs
@@ -38,43 +38,81 @@ green-keeps d at n xs l h =
     let k : length (plus d (part xs at n) (part xs 0 n)) ≡ n = plus-length d (part xs at n) (part xs 0 n) e ∙ simp (length-take, length-drop) (omega arith) in
     put-keeps xs at n (plus d (part xs at n) (part xs 0 n)) k h
 
--- ---- the planes of a correlated family: three of one size
-module _ (g : Geometry) (r : Bool) (er : r ≡ correlated (g .family)) (t : r ≡ true) (n : ℕ) (en : n ≡ planeSamples g 0) where
-  is-correlated : correlated (g .family) ≡ true
-  is-correlated = sym er ∙ t
+-- ---- the planes of a correlated family: three of one size, whose rows stand one after another
 
-  size-n : (p : ℕ) → planeSamples g p ≡ n
-  size-n p = sizes-alike g is-correlated p 0 ∙ sym en
+-- rows of a plane: h of a width w, from `at` on, with no gaps
+abbrev pub rowsFrom : ℕ → ℕ → ℕ → Stretch
+rowsFrom at w h = record { at = at; width = w; pitch = w; rows = h }
 
-  three-sum : sumBelow 3 (planeSamples g) ≡ n + n + n
+module _ (h w : ℕ) (lh : h ≤ 16384) (lw : w ≤ 16384) where
+  most : h * w ≤ 268435456
+  most = mul-le-mul lh lw
+
+  -- where B' begins, and where R' does
+  pub blue-fits : Fits w64 (h * w)
+  blue-fits = record { fits = omega (arith, most) }
+
+  pub red-fits : Fits w64 (h * w + h * w)
+  red-fits = record { fits = omega (arith, most) }
+
+module _ (g : Geometry) (r : Bool) (er : r ≡ correlated (g .family)) (t : r ≡ true) (w h : ℕ) (ew : w ≡ planeWidth g 0) (eh : h ≡ planeHeight g 0) where
+  mixes : correlated (g .family) ≡ true
+  mixes = sym er ∙ t
+
+  size : h * w ≡ planeSamples g 0
+  unfolding geo.planeSamples
+  size = rw (ew, eh) (mul-comm (planeHeight g 0) (planeWidth g 0))
+
+  three-sum : sumBelow 3 (planeSamples g) ≡ h * w + h * w + h * w
   unfolding base.sumBelow
-  three-sum = omega (arith, size-n 0, size-n 1, size-n 2)
+  three-sum = omega (arith, size, sizes-alike g mixes 1 0, sizes-alike g mixes 2 0)
 
-  three-in : (len : ℕ) → len ≡ allSamples g → n + n + n ≤ len
+  three-in : (len : ℕ) → len ≡ allSamples g → h * w + h * w + h * w ≤ len
   unfolding geo.allSamples
   three-in len e =
-      let z : 3 + (planeCount g - 3) ≡ planeCount g = omega (arith, correlated-three (g .family) is-correlated) in
+      let z : 3 + (planeCount g - 3) ≡ planeCount g = omega (arith, correlated-three (g .family) mixes) in
       rw e (omega (arith, three-sum, rw z at (sum-upto (planeSamples g) 3 (planeCount g - 3))))
 
-  -- both sums lie in the buffer
-  pub two-in : (len : ℕ) → len ≡ allSamples g → n + n ≤ len
-  two-in len e = omega (arith, three-in len e)
+  -- B' and R' begin past the end of G, and lie in the buffer
+  pub blue-apart : (len : ℕ) → len ≡ allSamples g → Apart len (rowsFrom 0 w h) (rowsFrom (h * w) w h)
+  blue-apart len e = record {
+    as-wide = refl;
+    as-many = refl;
+    wide = omega arith;
+    wide-to = omega arith;
+    before = omega arith;
+    inside = omega (arith, three-in len e);
+  }
 
-  pub three-still-in : (len len′ : ℕ) → len′ ≡ len → len ≡ allSamples g → n + n + n ≤ len′
-  three-still-in len len′ k e = omega (arith, three-in len e)
+  pub red-apart : (len len′ : ℕ) → len′ ≡ len → len ≡ allSamples g → Apart len′ (rowsFrom 0 w h) (rowsFrom (h * w + h * w) w h)
+  red-apart len len′ k e = record {
+    as-wide = refl;
+    as-many = refl;
+    wide = omega arith;
+    wide-to = omega arith;
+    before = omega arith;
+    inside = omega (arith, three-in len e);
+  }
 
-  -- what the two sums make, as the functions that add say it
-  pub coloured-both : (d : ℕ) (xs ys zs : List ℕ) → d ≡ g .depth → ys ≡ replaced xs n n (plus d (part xs n n) (part xs 0 n)) → zs ≡ replaced ys (n + n) n (plus d (part ys (n + n) n) (part ys 0 n)) → zs ≡ coloured g xs
-  unfolding coloured withGreen
-  coloured-both d xs ys zs ed ey ez =
-      rw (is-correlated, ← en, ← ed, ← ey) ez
+  module _ (xs ys zs : List ℕ) (e : length xs ≡ allSamples g) (ey : ys ≡ addedRows (g .depth) 0 w (h * w) w w h xs) (ez : zs ≡ addedRows (g .depth) 0 w (h * w + h * w) w w h ys) where
+    room : h * w + h * w + h * w ≤ length xs
+    room = three-in (length xs) e
 
-  -- at depth 8, and where the depth is the geometry's own
-  pub coloured-8 : (xs ys zs : List ℕ) → g .depth ≡ 8 → ys ≡ replaced xs n n (plus 8 (part xs n n) (part xs 0 n)) → zs ≡ replaced ys (n + n) n (plus 8 (part ys (n + n) n) (part ys 0 n)) → zs ≡ coloured g xs
-  coloured-8 xs ys zs ed ey ez = coloured-both 8 xs ys zs (sym ed) ey ez
+    blue : ys ≡ withGreen (g .depth) (h * w) (h * w) xs
+    unfolding withGreen
+    blue = ey ∙ added-plain (g .depth) w h 0 (h * w) xs (omega arith) (omega (arith, room))
 
-  pub coloured-own : (xs ys zs : List ℕ) → ys ≡ replaced xs n n (plus (g .depth) (part xs n n) (part xs 0 n)) → zs ≡ replaced ys (n + n) n (plus (g .depth) (part ys (n + n) n) (part ys 0 n)) → zs ≡ coloured g xs
-  coloured-own xs ys zs ey ez = coloured-both (g .depth) xs ys zs refl ey ez
+    kept : length ys ≡ length xs
+    kept = ap length blue ∙ green-keeps (g .depth) (h * w) (h * w) xs (omega arith) (omega (arith, room))
+
+    red : zs ≡ withGreen (g .depth) (h * w + h * w) (h * w) ys
+    unfolding withGreen
+    red = ez ∙ added-plain (g .depth) w h 0 (h * w + h * w) ys (omega arith) (omega (arith, room, kept))
+
+    -- what the two sums make
+    pub coloured-both : zs ≡ coloured g xs
+    unfolding coloured
+    coloured-both = red ∙ rw (mixes, ← size, ← blue)
 
 -- a depth is at most 14
 pub depth-most : (g : Geometry) → Sound g → g .depth ≤ 16

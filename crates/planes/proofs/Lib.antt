@@ -1,4 +1,4 @@
 pub mod Holds
+pub mod Adding
 pub mod Colours
 pub mod Laid
-pub mod Once

@@ -12,7 +12,7 @@ use Rattle.scope.specs.Base.{part, replaced, one}
 use Rattle.memory.proofs.Parts.{length-part}
 use Rattle.views.specs.Places.{samplesAt, gapsAt, howMany, rowsPlaces}
 use Rattle.views.proofs.Views.{samples-many, samples-all, gaps-all, many-all}
-use Rattle.views.proofs.Windows.{Window, window-room, window-many, window-in, window-part, window-put, window-keeps, rows-long, rows-many, row-window}
+use Rattle.views.proofs.Windows.{Window, window-room, window-many, window-in, window-part, window-put, window-keeps, rows-long, rows-many, row-window, trues-window}
 
 -- a store is a part of one element that is replaced
 set-put : (s : List ℕ) (i v : ℕ) → i < length s → replaced s i 1 (v ∷ []) ≡ set s i v
@@ -46,24 +46,9 @@ module _ (places : List Bool) (i j : ℕ) (w : Window places i (true ∷ []) j) 
 
 -- ---- row r, column c
 
-trues-at : (w c : ℕ) → c < w → Window (replicate w true) c (true ∷ []) c
-trues-at w c h =
-    let e : w ≡ c + suc (w - suc c) = omega arith in
-    record {
-      before = replicate c true;
-      after = replicate (w - suc c) true;
-      is = ap (λ (n : ℕ). replicate n true) e ∙ split c (suc (w - suc c));
-      long = length-replicate c true;
-      many = many-all c;
-    }
-  where
-    split : (a b : ℕ) → _≡_ {A = List Bool} (replicate (a + b) true) (replicate a true ++ replicate b true)
-    split zero b = rw zero-add
-    split (suc a) b = rw (suc-add a b) (ap (λ (z : List Bool). true ∷ z) (split a b))
-
 module _ (w p h r c : ℕ) (l : w ≤ p) (k : r < h) (q : c < w) (s : List ℕ) (room : h * p ≤ length s) where
   at-place : Window (rowsPlaces w p h) (r * p + c) (true ∷ []) (r * w + c)
-  at-place = window-in (rowsPlaces w p h) (r * p) (replicate w true) (r * w) (row-window w p h r l k) c (true ∷ []) c (trues-at w c q)
+  at-place = window-in (rowsPlaces w p h) (r * p) (replicate w true) (r * w) (row-window w p h r l k) c (true ∷ []) c (trues-window w c 1 (omega arith))
 
   within : length (rowsPlaces w p h) ≤ length s
   within = rw (rows-long w p h l) room

@@ -133,6 +133,18 @@ rows-all w (suc h) =
     rw (e, append-nil (replicate w true), rows-all w h, suc-mul h w)
     (rw (add-comm (h * w) w) (sym (replicate-append w (h * w))))
 
+-- n places of samples alone, from place a on
+pub trues-window : (len a n : ℕ) → a + n ≤ len → Window (replicate len true) a (replicate n true) a
+trues-window len a n h =
+    let e : len ≡ a + (n + (len - (a + n))) = omega arith in
+    record {
+      before = replicate a true;
+      after = replicate (len - (a + n)) true;
+      is = ap (λ (k : ℕ). replicate k true) e ∙ replicate-append a (n + (len - (a + n))) ∙ ap (λ (z : List Bool). replicate a true ++ z) (replicate-append n (len - (a + n)));
+      long = length-replicate a true;
+      many = many-all a;
+    }
+
 -- n rows from row a on
 pub rows-window : (w p h a n : ℕ) → w ≤ p → a + n ≤ h → Window (rowsPlaces w p h) (a * p) (rowsPlaces w p n) (a * w)
 rows-window w p h a n l r =

@@ -1,18 +1,18 @@
--- `bits::copy_bytes` meets its contract: the loop fills the buffer with the bytes as they stand (document 01, "Layout"). Assumes nothing.
+-- `bits::raw_u8` meets its contract: the loop fills the buffer with the bytes as they stand (document 01, "Layout"). Assumes nothing.
 use mathlib.Core.Path.{_≡_}
 use Prim.Native.Nat.{_+_, _-_, _≤_}
-use lib.ListN.{length, drop}
-use Rattle.scope.specs.Bits.{rawSamples}
+use lib.ListN.{length}
+use Rattle.bits.specs.Raw.{rawFrom}
 use Rattle.bits.proofs.Fills.{Fills, fills}
 use borrow.Author.Needs.{needs}
-use Rattle.bits.proofs.copy_bytes.Statement.{statement}
-use Rattle.bits.proofs.copy_bytes.Tie as tie
+use Rattle.bits.proofs.raw_u8.Statement.{statement}
+use Rattle.bits.proofs.raw_u8.Tie as tie
 
 abbrev Inv-loop : tie.InvT-loop
-Inv-loop src from out₀ i₀ out i = Fills (rawSamples 8 (drop from src) (length out₀)) out i × (length out ≡ length out₀) × (from + length out₀ ≤ length src)
+Inv-loop payload first depth out₀ i₀ out i = Fills (rawFrom depth payload first (length out₀)) out i × (length out ≡ length out₀) × (first + length out₀ ≤ length payload) × (depth ≡ 8)
 
 abbrev μ-loop : tie.MeasureT-loop
-μ-loop src from out₀ i₀ out i = length out₀ - i
+μ-loop payload first depth out₀ i₀ out i = length out₀ - i
 
 loop-holds : tie.Need-loop-holds Inv-loop μ-loop
 loop-holds c = search fills
@@ -41,8 +41,8 @@ same-length c = search needs
 returns : tie.Need-returns Inv-loop μ-loop
 returns c = search fills
 
-pub copy-bytes-spec : {M : Type 1} → statement M
-copy-bytes-spec =
+pub raw-u8-spec : {M : Type 1} → statement M
+raw-u8-spec =
     tie.close
     (tie.spec
     Inv-loop

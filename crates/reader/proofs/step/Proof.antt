@@ -1,8 +1,8 @@
--- `stepped` gives what is found with the position behind it (document 01, "Words and lookup").
+-- `step` gives what is found with the position behind it (document 01, "Words and lookup").
 use borrow.Author.Needs.{needs}
 use Rattle.reader.proofs.Stepping.{stepping}
-use Rattle.reader.proofs.stepped.Statement.{statement}
-use Rattle.reader.proofs.stepped.Tie as tie
+use Rattle.reader.proofs.step.Statement.{statement}
+use Rattle.reader.proofs.step.Tie as tie
 
 enum-told : tie.Need-enum-told
 enum-told c = search needs
@@ -16,5 +16,5 @@ returns c = search stepping
 returns-2 : tie.Need-returns-2
 returns-2 c = search stepping
 
-pub stepped-spec : {M : Type 1} → statement M
-stepped-spec = tie.close (tie.spec enum-told enum-known-found returns returns-2)
+pub step-spec : {M : Type 1} → statement M
+step-spec = tie.close (tie.spec enum-told enum-known-found returns returns-2)

@@ -1,16 +1,16 @@
--- `words_u8` reads words one after the other into bytes (document 01, "Words and lookup").
+-- `chain8::words` meets its contract: words one after the other (document 01, "Words and lookup"). Assumes nothing.
 use Prim.Native.Nat.{_-_, _^_}
 use lib.ListN.{length}
 use Rattle.scope.specs.Lookup.{lookupIn}
 use Rattle.reader.proofs.Reading.{Reads, reading}
-use Rattle.reader.proofs.words_u8.Statement.{statement}
-use Rattle.reader.proofs.words_u8.Tie as tie
+use Rattle.chain8.proofs.words.Statement.{statement}
+use Rattle.chain8.proofs.words.Tie as tie
 
 abbrev Inv-loop : tie.InvT-loop
-Inv-loop table m payload at out₀ q₀ j₀ out q j = Reads (lookupIn table m payload) (2 ^ 8) at (length out₀) out q j
+Inv-loop table m payload at out₀ p₀ k₀ out p k = Reads (lookupIn table m payload) (2 ^ 8) at (length out₀) out p k
 
 abbrev μ-loop : tie.MeasureT-loop
-μ-loop table m payload at out₀ q₀ j₀ out q j = length out₀ - j
+μ-loop table m payload at out₀ p₀ k₀ out p k = length out₀ - k
 
 loop-holds : tie.Need-loop-holds Inv-loop μ-loop
 loop-holds c = search reading
@@ -36,8 +36,8 @@ cast-out c = search reading
 slice-write-out : tie.Need-slice-write-out Inv-loop μ-loop
 slice-write-out c = search reading
 
-add-j : tie.Need-add-j Inv-loop μ-loop
-add-j c = search reading
+add-k : tie.Need-add-k Inv-loop μ-loop
+add-k c = search reading
 
 loop-less : tie.Need-loop-less Inv-loop μ-loop
 loop-less c = search reading
@@ -51,8 +51,8 @@ same-length-2 c = search reading
 returns-2 : tie.Need-returns-2 Inv-loop μ-loop
 returns-2 c = search reading
 
-pub words-u8-spec : {M : Type 1} → statement M
-words-u8-spec =
+pub words-spec : {M : Type 1} → statement M
+words-spec =
     tie.close
     (tie.spec
     Inv-loop
@@ -65,7 +65,7 @@ words-u8-spec =
     enum-known-symbol
     cast-out
     slice-write-out
-    add-j
+    add-k
     loop-less
     loop-again
     same-length-2

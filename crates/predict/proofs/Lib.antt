@@ -1,2 +1,3 @@
 pub mod Slice
-pub mod Once
+pub mod Simulated
+pub mod Rebuilding

@@ -3,21 +3,18 @@
 use mathlib.Core.Path.{_≡_, ap, _∙_}
 use mathlib.Core.Bool.{cond}
 use mathlib.Core.List.{List}
-use Prim.Native.Nat.{ℕ, _+_, _-_, _*_, _/_, _%_, _^_, _≤_, _<_, min}
-use native.Mathlib.Nat.{add-mul-mod-self-right, add-mod-right, mod-eq-of-lt, mod-lt, zero-mod, mod-add-div', lt-of-mul-lt-mul-right, mul-le-mul-right, mul-le-mul-left, suc-mul}
+use Prim.Native.Nat.{ℕ, _+_, _-_, _*_, _/_, _%_, _^_, _≤_, _<_}
+use native.Mathlib.Nat.{add-mul-mod-self-right, add-mod-right, mod-eq-of-lt, mod-lt, zero-mod, mod-add-div', lt-of-mul-lt-mul-right, mul-le-mul-right, suc-mul}
 use native.Mathlib.Decide.{decLt}
 use native.Mathlib.Omega.{arith}
-use borrow.Author.Needs.{needs}
 use borrow.Author.Tests.{lt-ltb, le-ltb, eq-eqb, ne-eqb}
-use mir.Syntax.{w64}
-use mir.Val.{Fits}
 use lib.Dec.{ltb}
 use lib.ListN.{length, getD, take, set}
 use lib.Pow.{pow-pos}
 use lib.Seq.{getD-take}
-use Rattle.scope.specs.Base.{Step, replaced}
+use Rattle.scope.specs.Base.{Step}
 use Rattle.scope.specs.Prediction.{prediction, sample, samplesOf, predictor}
-use Rattle.memory.proofs.InPlace.{At, at-start, at-step, at-end, at-below, swept-at, rebuilt-length, rebuilt-below}
+use Rattle.memory.proofs.InPlace.{At, at-start, at-step, at-end, at-below, swept-at}
 use Rattle.rows.specs.Rows.{leftward, across, rowFrom, firstRow, laterRow, row, Above}
 
 -- ---- columns: a row starts at a place that the width divides
@@ -102,37 +99,28 @@ module _ (depth : ℕ) (predict : ℕ → ℕ → ℕ → ℕ) (width f : ℕ) (
 -- it began with xs, has made the samples before `start`, where a row starts, and now holds s
 pub record Rows (depth kind width f : ℕ) (xs s : List ℕ) (start : ℕ) : Type 0 where
   pub made : At (sample depth (predictor depth kind) width f) xs s start
-  pub column : start < length xs → start % width ≡ 0
+  pub column : start % width ≡ 0
 
 module _ (depth kind width f : ℕ) (xs : List ℕ) where
   -- before the first row
   pub rows-start : Rows depth kind width f xs xs 0
-  rows-start = record { made = at-start (sample depth (predictor depth kind) width f) xs; column = λ h. zero-mod width }
+  rows-start = record { made = at-start (sample depth (predictor depth kind) width f) xs; column = zero-mod width }
 
   module _ (s : List ℕ) (start : ℕ) (r : Rows depth kind width f xs s start) where
-    -- the length stays
-    pub rows-length : length s ≡ length xs
-    rows-length = r .made .same
-
     -- after the last row
     pub rows-end : length s ≤ start → s ≡ samplesOf depth kind width f xs
     unfolding samplesOf
     rows-end h = at-end (sample depth (predictor depth kind) width f) xs s start (r .made) h
 
-    module _ (back end : ℕ) (h : start < length s) (eb : back ≡ f * width) (p : 0 < back) (ee : end ≡ min (start + width) (length s))
+    module _ (back end : ℕ) (q : 0 < width) (eb : back ≡ f * width) (p : 0 < back) (ee : end ≡ start + width) (h : end ≤ length s)
       where
-        aligned : start % width ≡ 0
-        aligned = r .column (omega (arith, r .made .same))
-
         -- a row
-        pub rows-step : 0 < width → (ys : List ℕ) → ys ≡ row depth kind back s start end → Rows depth kind width f xs ys end
+        pub rows-step : (ys : List ℕ) → ys ≡ row depth kind back s start end → Rows depth kind width f xs ys end
         unfolding row
-        rows-step q ys k =
+        rows-step ys k =
             record {
               made = rw k (go (decLt start back));
-              column = λ l.
-                  let e : end ≡ start + width = omega (arith, r .made .same) in
-                  rw e (add-mod-right start width ∙ aligned);
+              column = rw ee (add-mod-right start width ∙ r .column);
             }
           where
             go : Dec (start < back)
@@ -140,48 +128,20 @@ module _ (depth kind width f : ℕ) (xs : List ℕ) where
                 (cond (ltb start back) (firstRow depth s start end) (laterRow depth kind back s start end)) end
             go (yes l) =
                 rw (lt-ltb start back l)
-                (first-row-at depth (predictor depth kind) width f xs s start end (r .made) aligned (omega arith) (omega arith)
+                (first-row-at depth (predictor depth kind) width f xs s start end (r .made) (r .column) (omega arith) (omega arith)
                 (omega arith) (rw eb at l))
             go (no l) =
                 let m : back ≤ start = omega arith in
                 rw (le-ltb start back m, eb)
-                (later-row-at depth (predictor depth kind) width f xs s start end (r .made) aligned (omega arith) (omega arith)
+                (later-row-at depth (predictor depth kind) width f xs s start end (r .made) (r .column) (omega arith) (omega arith)
                 (omega arith) (rw eb at p) (rw eb at m))
 
         -- what was made is below 2^depth
         pub rows-above : 0 < f → Above depth back s (start + 1) end
         unfolding sample
-        rows-above q =
+        rows-above o =
             record {
               below = λ j l m.
                   at-below (sample depth (predictor depth kind) width f) (2 ^ depth) (λ i b x. mod-lt _ (pow-pos depth)) xs s start
-                  (r .made) j (omega (arith, mul-le-mul-right width q));
+                  (r .made) j (omega (arith, mul-le-mul-right width o));
             }
-
--- the row f up stands at least one place back
-pub back-pos : (f width back : ℕ) → back ≡ f * width → 0 < f → 0 < width → 0 < back
-back-pos f width back e h k = omega (arith, mul-le-mul-right width h)
-
--- how far back it stands is a usize
-pub back-fits : (f width : ℕ) → f ≤ 2 → width ≤ 16384 → Fits w64 (f * width)
-back-fits f width h k = record { fits = omega (arith, mul-le-mul-left f k, mul-le-mul-right 16384 h) }
-
--- what the answers of the loop over the rows search with
-pub ruleset slices = (rows-start, rows-length, rows-step, rows-end, rows-above, back-pos, back-fits, needs)
-
--- a part that was lent is back
-pub part-back : (l : List ℕ) (at n : ℕ) (ys zs : List ℕ) → ys ≡ zs → replaced l at n ys ≡ replaced l at n zs
-part-back l at n ys zs e = rw e
-
--- ---- what callers cite of a slice's samples
-
--- there are as many samples as residues
-pub samples-length : (depth kind width f : ℕ) (rs : List ℕ) → length (samplesOf depth kind width f rs) ≡ length rs
-unfolding samplesOf
-samples-length depth kind width f rs = rebuilt-length (sample depth (predictor depth kind) width f) rs
-
--- every sample is below 2^depth, whatever the residues
-pub samples-below : (depth kind width f : ℕ) (rs : List ℕ) (j : ℕ) → j < length rs → getD (samplesOf depth kind width f rs) j 0 < 2 ^ depth
-unfolding samplesOf sample
-samples-below depth kind width f rs j h =
-    rebuilt-below (sample depth (predictor depth kind) width f) (2 ^ depth) (λ i b x. mod-lt _ (pow-pos depth)) rs j h

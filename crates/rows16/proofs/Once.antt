@@ -6,9 +6,9 @@ use contract.Lifetimes.{Lfts}
 use borrow.Fn.World.{ArgsD, ResD}
 use denote.Triple.Clauses.{AtExit}
 use denote.Ref.{now}
-use Rattle.rows16.proofs.row_u16 as row-u16
-use Rattle.rows16.proofs.row_u16.Reads as row-u16-reads
+use Rattle.rows16.proofs.row as row
+use Rattle.rows16.proofs.row.Reads as row-reads
 
-pub row-u16-once : (κs : Lfts 1) (a : ArgsD row-u16.signature κs) (r₁ r₂ : ResD row-u16.signature κs) (s₁ s₂ : AtExit row-u16.ended κs)
-    → row-u16-reads.Post κs a r₁ s₁ → row-u16-reads.Post κs a r₂ s₂ → now (s₁ .1 .0) ≡ now (s₂ .1 .0)
-row-u16-once κs a r₁ r₂ s₁ s₂ p q = p ∙ sym q
+pub row-once : (κs : Lfts 1) (a : ArgsD row.signature κs) (r₁ r₂ : ResD row.signature κs) (s₁ s₂ : AtExit row.ended κs)
+    → row-reads.Post κs a r₁ s₁ → row-reads.Post κs a r₂ s₂ → now (s₁ .1 .0) ≡ now (s₂ .1 .0)
+row-once κs a r₁ r₂ s₁ s₂ p q = p ∙ sym q

@@ -128,7 +128,7 @@ fn later_row_u16(kind: u8, s: &mut [u16], start: usize, end: usize, back: usize,
 }
 
 // A row of either sort. The samples of the row f up are below 2^depth.
-pub fn row_u16(kind: u8, s: &mut [u16], start: usize, end: usize, back: usize, depth: usize)
+pub fn row(kind: u8, s: &mut [u16], start: usize, end: usize, back: usize, depth: usize)
     requires { ⌜ (0 < back) × (start < end) × (end ≤ length (now s)) ⌝ }
     requires { ⌜ Above depth back (now s) (start + 1) end ⌝ }
     requires { ⌜ (8 < depth) × (depth ≤ 16) ⌝ }

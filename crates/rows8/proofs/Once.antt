@@ -6,9 +6,9 @@ use contract.Lifetimes.{Lfts}
 use borrow.Fn.World.{ArgsD, ResD}
 use denote.Triple.Clauses.{AtExit}
 use denote.Ref.{now}
-use Rattle.rows8.proofs.row_u8 as row-u8
-use Rattle.rows8.proofs.row_u8.Reads as row-u8-reads
+use Rattle.rows8.proofs.row as row
+use Rattle.rows8.proofs.row.Reads as row-reads
 
-pub row-u8-once : (κs : Lfts 1) (a : ArgsD row-u8.signature κs) (r₁ r₂ : ResD row-u8.signature κs) (s₁ s₂ : AtExit row-u8.ended κs)
-    → row-u8-reads.Post κs a r₁ s₁ → row-u8-reads.Post κs a r₂ s₂ → now (s₁ .1 .0) ≡ now (s₂ .1 .0)
-row-u8-once κs a r₁ r₂ s₁ s₂ p q = p ∙ sym q
+pub row-once : (κs : Lfts 1) (a : ArgsD row.signature κs) (r₁ r₂ : ResD row.signature κs) (s₁ s₂ : AtExit row.ended κs)
+    → row-reads.Post κs a r₁ s₁ → row-reads.Post κs a r₂ s₂ → now (s₁ .1 .0) ≡ now (s₂ .1 .0)
+row-once κs a r₁ r₂ s₁ s₂ p q = p ∙ sym q

@@ -116,10 +116,11 @@ fn later_row_u8(kind: u8, s: &mut [u8], start: usize, end: usize, back: usize)
     median_row_u8(s, start + 1, end, back);
 }
 
-// A row of either sort.
-pub fn row_u8(kind: u8, s: &mut [u8], start: usize, end: usize, back: usize)
+// A row of either sort. The depth is 8; rows16 has the same function at the depths above.
+pub fn row(kind: u8, s: &mut [u8], start: usize, end: usize, back: usize, depth: usize)
     requires { ⌜ (0 < back) × (start < end) × (end ≤ length (now s)) ⌝ }
-    ensures { λ _. ⌜ now (s .exit) ≡ row 8 kind back (now (s .entry)) start end ⌝ }
+    requires { ⌜ depth ≡ 8 ⌝ }
+    ensures { λ _. ⌜ now (s .exit) ≡ row depth kind back (now (s .entry)) start end ⌝ }
 {
     if start < back {
         first_row_u8(s, start, end);

@@ -30,6 +30,19 @@ determined (false ∷ places) (x ∷ a) (y ∷ b) l e h =
     let p : x ≡ y = head-same h in
     rw p (ap (λ (z : List ℕ). y ∷ z) (determined places a b (suc-inj l) e (tail-same h)))
 
+-- every element is a sample or of a gap
+views-long : (places : List Bool) (buf : List ℕ) → length (samplesAt places buf) + length (gapsAt places buf) ≡ length buf
+unfolding samplesAt gapsAt
+views-long [] buf = omega arith
+views-long (t ∷ places) [] = omega arith
+views-long (true ∷ places) (x ∷ buf) = omega (arith, views-long places buf)
+views-long (false ∷ places) (x ∷ buf) = omega (arith, views-long places buf)
+
+-- so two buffers with the same samples and the same gaps are one
+pub only-one : (places : List Bool) {a b : List ℕ} → samplesAt places a ≡ samplesAt places b → gapsAt places a ≡ gapsAt places b → a ≡ b
+only-one places {a} {b} e h =
+    determined places a b (sym (views-long places a) ∙ rw (e, h) (views-long places b)) e h
+
 pub laid-length : (places : List Bool) (xs found : List ℕ) → length (laid places xs found) ≡ length found
 unfolding laid
 laid-length [] xs found = refl

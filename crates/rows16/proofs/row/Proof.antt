@@ -1,7 +1,7 @@
--- `rows16::row_u16` meets its contract. Assumes nothing.
+-- `rows16::row` meets its contract. Assumes nothing.
 use Rattle.rows.proofs.Parts.{row-parts}
-use Rattle.rows16.proofs.row_u16.Statement.{statement}
-use Rattle.rows16.proofs.row_u16.Tie as tie
+use Rattle.rows16.proofs.row.Statement.{statement}
+use Rattle.rows16.proofs.row.Tie as tie
 
 first-row-u16-requires : tie.Need-first-row-u16-requires
 first-row-u16-requires c κs = search row-parts
@@ -21,8 +21,8 @@ same-length-2 c = search row-parts
 returns-2 : tie.Need-returns-2
 returns-2 c = search row-parts
 
-pub row-u16-spec : {M : Type 1} → statement M
-row-u16-spec =
+pub row-spec : {M : Type 1} → statement M
+row-spec =
     tie.close
     (tie.spec
     first-row-u16-requires

@@ -1,0 +1,52 @@
+#!/usr/bin/env python3
+"""Twin crates: the 16-bit crate is the 8-bit crate's text under the substitutions of tools/twins.txt.
+
+twins.py check          says which files differ from what the substitutions give (exit 1 if any does)
+twins.py write NAME8    writes the twin of NAME8
+"""
+import pathlib
+import sys
+
+ROOT = pathlib.Path(__file__).resolve().parent.parent
+
+
+def pairs():
+    found = []
+    for line in (ROOT / "tools/twins.txt").read_text().splitlines():
+        if line.startswith("# crates "):
+            found.append((*line.split()[2:4], []))
+        elif " => " in line:
+            found[-1][2].append(line.split(" => "))
+    return found
+
+
+def made(narrow, substitutions):
+    base = ROOT / "crates" / narrow
+    texts = {}
+    for path in sorted(p for p in base.rglob("*") if p.is_file()):
+        name, text = str(path.relative_to(base)), path.read_text()
+        for old, new in substitutions:
+            name, text = name.replace(old, new), text.replace(old, new)
+        texts[name] = text
+    return texts
+
+
+def main():
+    bad = 0
+    for narrow, wide, substitutions in pairs():
+        base = ROOT / "crates" / wide
+        texts = made(narrow, substitutions)
+        if sys.argv[1] == "write" and sys.argv[2] == narrow:
+            for name, text in texts.items():
+                (base / name).parent.mkdir(parents=True, exist_ok=True)
+                (base / name).write_text(text)
+        elif sys.argv[1] == "check":
+            there = {str(p.relative_to(base)): p.read_text() for p in base.rglob("*") if p.is_file()}
+            for name in sorted(set(there) | set(texts)):
+                if there.get(name) != texts.get(name):
+                    print(f"{wide}/{name} is not {narrow}'s text")
+                    bad = 1
+    sys.exit(bad)
+
+
+main()

@@ -1,6 +1,6 @@
 // Document 01, "Words and lookup": "the table reading takes every sample from that lookup". Words one after the other from a bit position
-// on, by a table, into bytes: as many as a buffer has places, or row by row into rows that stand every pitch elements. Here at depth 8;
-// crate chain16 is the same for 16-bit samples.
+// on, by a table, into samples of 8 bits: as many as a buffer has places, or row by row into rows that stand every pitch elements. The
+// other width has a twin of this crate.
 use reader::Reached;
 use reader::Stepped;
 ghost use mathlib.Core.Path.{_≡_};

@@ -53,9 +53,9 @@ module _ (look : ℕ → Found) (at n : ℕ) (out : List ℕ) where
           f ∙ ap stuckAt (sym h)
 
 -- any two readings answer the same, and where they end they hand out the same
-pub reading-once : (look : ℕ → Found) (at n : ℕ) (r₁ r₂ : Reached) (out₁ out₂ : List ℕ)
+pub reading-once : {look : ℕ → Found} {at n : ℕ} {r₁ r₂ : Reached} {out₁ out₂ : List ℕ}
     → WordsRead look at n r₁ out₁ → WordsRead look at n r₂ out₂ → (r₁ ≡ r₂) × ((e : ℕ) → r₁ ≡ End e → out₁ ≡ out₂)
-reading-once look at n r₁ r₂ out₁ out₂ p q = (
+reading-once {look} {at} {n} {out₁ = out₁} p q = (
   p .answer ∙ sym (q .answer),
   λ e f. sym (q .handed out₁ (end-chain look at n out₁ e (subst (λ (r : Reached). WordsRead look at n r out₁) f p))),
 )

@@ -1,6 +1,7 @@
 -- The loop that reads the words of rows one after the other, each row into its own places, resuming at the bit position where the last
 -- one ended: for every lookup and element (document 01, "Words and lookup": "takes every sample from that lookup"). Assumes nothing.
 use mathlib.Core.Path.{_≡_, refl, sym, ap, _∙_}
+use mathlib.Core.Bool.{Bool}
 use mathlib.Core.List.{List, [], _++_}
 use Prim.Native.Nat.{ℕ, zero, suc, _+_, _-_, _*_, _^_, _≤_, _<_}
 use native.Mathlib.Nat.{suc-mul, zero-mul, zero-add, suc-add, mul-le-mul-right}
@@ -16,12 +17,13 @@ use Rattle.scope.specs.declared.Found.{Found}
 use Rattle.scope.specs.declared.Found.the-variants.{Word, NoWord}
 use Rattle.codes.proofs.Chains.{no-symbols}
 use Rattle.views.specs.Places.{samplesAt, gapsAt, rowsPlaces, Rowed}
+use Rattle.views.proofs.Views.{only-one}
 use Rattle.views.proofs.Filling.{Fills, fills-start, fills-end, row-fits, row-fits-2, row-end-fits, lent-in, lent-long, lent-back}
 use Rattle.reader.specs.Reading.{onward, positionAfter, reached, WordsRead, Readable}
 use Rattle.reader.specs.declared.Reached.{Reached}
 use Rattle.reader.specs.declared.Reached.the-variants.{End, Stuck}
 use Rattle.reader.proofs.Reading.{then}
-use Rattle.reader.proofs.Chains.{joined, chain-resumes, end-chain, end-position, stuck-chain}
+use Rattle.reader.proofs.Chains.{joined, chain-resumes, end-chain, end-position, stuck-chain, reading-once}
 
 -- ---- positions resume
 
@@ -162,5 +164,20 @@ module _ (look : ℕ → Found) (limit w p h : ℕ) (s₀ : List ℕ) where
       where
         same : (ss : List ℕ) → symbols (samplesAt (rowsPlaces w p h) s) ≡ symbols ss → samplesAt (rowsPlaces w p h) s ≡ ss
         same ss g = cc
+
+-- ---- any two readings of rows answer the same, leave the gaps alike and, where they end, the whole buffer
+
+pub record SameRows (places : List Bool) (r₁ r₂ : Reached) (s₁ s₂ : List ℕ) : Type 0 where
+  pub answer : r₁ ≡ r₂
+  pub gaps : gapsAt places s₁ ≡ gapsAt places s₂
+  pub ended : (e : ℕ) → r₁ ≡ End e → s₁ ≡ s₂
+
+module _ {look : ℕ → Found} {n : ℕ} {places : List Bool} {r₁ r₂ : Reached} {found s₁ s₂ : List ℕ} where
+  pub rows-once : WordsRead look 0 n r₁ (samplesAt places s₁) → gapsAt places s₁ ≡ found
+      → WordsRead look 0 n r₂ (samplesAt places s₂) → gapsAt places s₂ ≡ found → SameRows places r₁ r₂ s₁ s₂
+  rows-once p g q h =
+      let same = reading-once p q in
+      let gaps : gapsAt places s₁ ≡ gapsAt places s₂ = g ∙ sym h in
+      record { answer = same .0; gaps = gaps; ended = λ e f. only-one places (same .1 e f) gaps }
 
 pub ruleset rowing = (rows-start, rows-rowed, rows-same, rows-in, rows-asked, rows-step, rows-stuck, rows-kept, rows-end, rows-gaps, row-fits, row-fits-2, row-end-fits, needs)

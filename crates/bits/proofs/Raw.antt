@@ -2,7 +2,7 @@
 -- are packed at depth bits"). Assumes nothing.
 use mathlib.Core.Path.{_≡_, refl, sym, ap, _∙_}
 use mathlib.Core.Bool.{Bool, true, false}
-use mathlib.Core.List.{List, _∷_, _++_}
+use mathlib.Core.List.{List, [], _∷_, _++_}
 use Prim.Native.Nat.{ℕ, zero, suc, _+_, _-_, _*_, _≤_, _<_}
 use native.Mathlib.Nat.{suc-mul, zero-mul, add-mul, zero-add, suc-add, add-zero, mul-le-mul}
 use native.Mathlib.Omega.{arith}
@@ -62,6 +62,15 @@ module _ (depth : ℕ) (payload : List ℕ) (first n : ℕ) (d : depth ≤ 16) (
 pub raw-first : (depth : ℕ) (payload : List ℕ) (n : ℕ) → rawFrom depth payload 0 n ≡ rawSamples depth payload n
 unfolding rawFrom bts.rawSamples
 raw-first depth payload n = rw zero-mul
+
+-- ---- none of them
+
+pub raw-none : (depth : ℕ) (payload : List ℕ) (first : ℕ) → rawFrom depth payload first 0 ≡ []
+raw-none depth payload first = go (eqb depth 8) refl
+  where
+    go : (b : Bool) → eqb depth 8 ≡ b → rawFrom depth payload first 0 ≡ []
+    go true e = raw-bytes depth payload first 0 (eqb-true depth 8 e)
+    go false e = raw-deep depth payload first 0 (eqb-false depth 8 e) ∙ unfold bts.packedFrom in refl
 
 -- ---- n of them, and then k more
 

@@ -113,7 +113,7 @@ unfolding slc.slicesBy slc.sliceRule slc.sizeCheck lay.sliceAt frm.sliceCheck fr
 slice-own frame g lengths shorts s e = rw (e, short-long (sliceLengths frame g lengths s))
 
 -- checks in order that agree one by one
-order-same : (n : ℕ) (f h : ℕ → Answer) → ((s : ℕ) → s < n → f s ≡ h s) → inOrder n f ≡ inOrder n h
+pub order-same : (n : ℕ) (f h : ℕ → Answer) → ((s : ℕ) → s < n → f s ≡ h s) → inOrder n f ≡ inOrder n h
 unfolding rfs.inOrder
 order-same zero f h e = refl
 order-same (suc n) f h e = rw (order-same n f h (λ s l. e s (omega arith)), e n (omega arith))

@@ -44,7 +44,7 @@ module _ (frame : List ℕ) (g : Geometry) (s : ℕ) (a : SliceAt) (is : a ≡ s
   unfolding lay.sliceAt
   at-plane = rw is
 
-  at-place : a .place ≡ placeInPlane frame g s
+  pub at-place : a .place ≡ placeInPlane frame g s
   unfolding lay.sliceAt
   at-place = rw is
 

@@ -7,10 +7,10 @@ use lib.Dec.{eqb}
 use lib.ListN.{length, getD}
 use Rattle.scope.specs.Base.{part, replaced}
 use Rattle.scope.specs.Refusals.{inOrder}
-use Rattle.scope.specs.Geometry.{planeCount, sliceCount, fields, rowStart}
+use Rattle.scope.specs.Geometry.{correlated, planeCount, sliceCount, fields, rowStart}
 use Rattle.scope.specs.Layout.{planeIndex, payloadOf, sliceAt}
 use Rattle.scope.specs.Lookup.{lookupIn}
-use Rattle.scope.specs.Frame.{indexCheck}
+use Rattle.scope.specs.Frame.{indexCheck, bufferPlane, planesUpTo}
 use Rattle.scope.specs.declared.Geometry.{Geometry}
 use Rattle.scope.specs.declared.SliceAt.{SliceAt}
 use Rattle.scope.specs.declared.Found.{Found}
@@ -69,3 +69,7 @@ pub record Ready (limit : ℕ) (frame : List ℕ) (g : Geometry) (workspace : Li
 -- the planes with a slice's samples in its rows
 unfoldable pub withRows : Geometry → SliceAt → List ℕ → List ℕ → List ℕ
 withRows g a samples planes = replaced planes (rowStart g (a .plane) (a .first)) (a .rows * a .width) samples
+
+-- the picture of planes in wire order: G added where the family is stored so, in the buffer's order
+unfoldable pub pictureBy : Geometry → (ℕ → List ℕ) → List ℕ
+pictureBy g wire = planesUpTo (bufferPlane (correlated (g .family)) (g .depth) wire) (planeCount g)

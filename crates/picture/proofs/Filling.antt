@@ -1,0 +1,128 @@
+-- Every slice in wire order into its rows of the planes: what has been read before slice s, and that every plane is then whole. Assumes
+-- nothing.
+use mathlib.Core.Path.{_≡_, refl, sym, ap, _∙_}
+use mathlib.Core.List.{List, [], _∷_, _++_}
+use Prim.Native.Nat.{ℕ, zero, suc, _+_, _*_, _≤_, _<_}
+use native.Mathlib.Numerals.{add-one}
+use native.Mathlib.Omega.{arith}
+use lib.ListN.{length, getD, set}
+use Rattle.scope.specs.Base.{replaced}
+use Rattle.scope.specs.Refusals.{inOrder}
+use Rattle.scope.specs.Geometry as geo
+use Rattle.scope.specs.Geometry.{planeCount, sliceCount, planeWidth, firstRow, rowsAt, planeSamples, allSamples, orderOf, planeStart, rowStart}
+use Rattle.scope.specs.Layout as lay
+use Rattle.scope.specs.Layout.{planeIndex, namedBefore, placeInPlane, sliceAt}
+use Rattle.scope.specs.declared.Geometry.{Geometry}
+use Rattle.scope.specs.declared.SliceAt.{SliceAt}
+use Rattle.scope.specs.declared.Place.{Place}
+use Rattle.scope.specs.declared.Answer.{Answer}
+use Rattle.scope.specs.declared.Answer.the-variants.{Done, Refused}
+use Rattle.geometry.specs.Sound.{Sound}
+use Rattle.geometry.specs.Places.{filled}
+use Rattle.geometry.proofs.Places.{order, place-room, place-starts, filled-none, filled-next, filled-most, filled-all}
+use Rattle.layout.specs.Placed.{Placed}
+use Rattle.layout.proofs.Slices.{named-here, named-other, named-all}
+use Rattle.layout.proofs.Going.{Going, going-start, going-last, going-done, going-placed, going-step, going-refused}
+use Rattle.scope.specs.Frame.{indexCheck}
+use Rattle.memory.proofs.Parts.{put-length}
+use Rattle.planes.specs.Standing.{Planes}
+use Rattle.planes.proofs.Holds.{Holds, holds-more}
+use Rattle.tables.specs.declared.Codes.{Codes}
+use Rattle.picture.specs.Steps as stp
+use Rattle.picture.specs.Steps.{Look, readAt, samplesFor, gathered, planeOf, Ready, withRows}
+use Rattle.picture.proofs.Placing.{at-number, at-plane, at-place, at-first, at-rows, at-width}
+
+-- what has been read before slice s: each plane's stretch begins with the samples of the slices so far that name it
+pub record Filled (samples : ℕ → List ℕ) (frame : List ℕ) (g : Geometry) (s : ℕ) (buf : List ℕ) : Type 0 where
+  pub holds : Holds (planeCount g) (orderOf g) (planeSamples g) (λ p. filled g p (namedBefore frame g p s)) (λ p. gathered samples frame g p s) buf
+  pub long : length buf ≡ allSamples g
+
+module _ (samples : ℕ → List ℕ) (frame : List ℕ) (g : Geometry) where
+  pub filled-start : (buf : List ℕ) → length buf ≡ allSamples g → Filled samples frame g 0 buf
+  unfolding geo.allSamples lay.namedBefore stp.gathered
+  filled-start buf el = record { holds = record { each = λ p l. rw (filled-none g p); room = omega (arith, el) }; long = el }
+
+  module _ (s : ℕ) (buf : List ℕ) (w : Filled samples frame g s buf) where
+    pub filled-long : length buf ≡ allSamples g
+    filled-long = w .long
+
+    -- every plane has its K slices, so every sample is defined
+    pub filled-planes : (f : ℕ → Answer) (t : ℕ) (seen : List ℕ) → Going f frame g t seen s → Sound g → t ≤ s → Planes g (planeOf samples frame g) buf
+    unfolding stp.planeOf geo.allSamples geo.planeStart
+    filled-planes f t seen d ok h =
+        record {
+          each = λ p l. rw (going-last f frame g t seen s d h) at (rw (full p l) at (w .holds .each p l));
+          whole = w .long;
+        }
+      where
+        full : (p : ℕ) → p < planeCount g → filled g p (namedBefore frame g p s) ≡ planeSamples g p
+        full p l = rw (going-last f frame g t seen s d h, named-all frame g (d .checked) p l) (filled-all g ok p)
+
+    module _ (ok : Sound g) (p k : ℕ) (pl : Placed frame g s p k) (buf′ : List ℕ)
+        (eb : buf′ ≡ replaced buf (rowStart g p (firstRow g p k)) (rowsAt g p k * planeWidth g p) (samples s)) (el : length buf′ ≡ length buf) where
+      -- the slice stands where its plane is filled to
+      there : rowStart g p (firstRow g p k) ≡ planeStart g p + filled g p k
+      there = place-starts g ok p k (pl .place-below)
+
+      as-long : length (samples s) ≡ rowsAt g p k * planeWidth g p
+      as-long =
+          put-length buf (rowStart g p (firstRow g p k)) (rowsAt g p k * planeWidth g p) (samples s)
+          (omega (arith, w .long, place-room g ok p k (pl .plane-below) (pl .place-below))) (rw eb at el)
+
+      put : buf′ ≡ replaced buf (planeStart g p + filled g p k) (rowsAt g p k * planeWidth g p) (samples s)
+      put = rw there at eb
+
+      more : Holds (planeCount g) (orderOf g) (planeSamples g) (λ p. filled g p (namedBefore frame g p (suc s))) (λ p. gathered samples frame g p (suc s)) buf′
+      unfolding stp.gathered geo.planeStart
+      more =
+          let e : k ≡ namedBefore frame g p s = pl .place in
+          holds-more (planeCount g) (orderOf g) (planeSamples g) (order g) (λ p. filled g p (namedBefore frame g p s)) (λ p. gathered samples frame g p s) buf (w .holds)
+          (λ p. filled g p (namedBefore frame g p (suc s))) (λ p. gathered samples frame g p (suc s)) buf′ p (rowsAt g p (namedBefore frame g p s) * planeWidth g p) (samples s) (pl .plane-below) (rw e at as-long)
+          (λ q l. filled-most g q (namedBefore frame g q s))
+          (rw (← filled-next g p (namedBefore frame g p s)) (filled-most g p (suc (namedBefore frame g p s))))
+          (λ q l ne. rw (named-other frame g q s (rw (pl .plane) at ne)))
+          (rw (pl .plane, named-here frame g s) (filled-next g (planeIndex frame g s) (namedBefore frame g (planeIndex frame g s) s)))
+          (λ q l. rw (pl .plane)) (rw e at put) el
+
+      filled-more : Filled samples frame g (s + 1) buf′
+      filled-more = record { holds = rw add-one more; long = el ∙ w .long }
+
+-- ---- the loop over the slices
+
+-- what the loop knows before slice s
+pub record Reading (look : Look) (frame : List ℕ) (g : Geometry) (t : ℕ) (seen : List ℕ) (s : ℕ) (buf : List ℕ) : Type 0 where
+  pub going : Going (readAt look frame g) frame g t seen s
+  pub filled : Filled (samplesFor look frame g) frame g s buf
+
+module _ (look : Look) (frame : List ℕ) (g : Geometry) (t : ℕ) where
+  pub reading-start : (buf : List ℕ) → t ≡ sliceCount g → Done ≡ inOrder (sliceCount g) (indexCheck frame g) → length buf ≡ allSamples g → Reading look frame g t (0 ∷ 0 ∷ 0 ∷ 0 ∷ []) 0 buf
+  reading-start buf et ck el = record { going = going-start (readAt look frame g) frame g t et ck; filled = filled-start (samplesFor look frame g) frame g buf el }
+
+  module _ (seen : List ℕ) (s : ℕ) (buf : List ℕ) (w : Reading look frame g t seen s buf) where
+    -- all slices are read
+    pub reading-done : t ≤ s → Done ≡ inOrder (sliceCount g) (readAt look frame g)
+    reading-done h = going-done (readAt look frame g) frame g t seen s (w .going) h
+
+    pub reading-planes : Sound g → t ≤ s → Planes g (planeOf (samplesFor look frame g) frame g) buf
+    reading-planes ok h = filled-planes (samplesFor look frame g) frame g s buf (w .filled) (readAt look frame g) t seen (w .going) ok h
+
+    -- one of them: slice s, whose record is a
+    module _ (p : ℕ) (ls : s < t) (ei : p ≡ planeIndex frame g s) (a : SliceAt) (is : a ≡ sliceAt frame g s) (r : Answer) (er : r ≡ readAt look frame g (a .number)) where
+      own : r ≡ readAt look frame g s
+      own = er ∙ ap (readAt look frame g) (at-number frame g s a is)
+
+      -- it is refused
+      pub reading-refused : (n : ℕ) (pl : Place) → r ≡ Refused n pl → Refused n pl ≡ inOrder (sliceCount g) (readAt look frame g)
+      reading-refused = going-refused (readAt look frame g) frame g t seen s (w .going) p ls ei r own
+
+      -- it is read
+      pub reading-step : Sound g → (buf′ : List ℕ) → r ≡ Done → (r ≡ Done → buf′ ≡ withRows g a (samplesFor look frame g (a .number)) buf) → length buf′ ≡ length buf
+          → Reading look frame g t (set seen p (getD seen p 0 + 1)) (s + 1) buf′
+      unfolding stp.withRows
+      reading-step ok buf′ ed eb el =
+          let pl : Placed frame g s p (getD seen p 0) = going-placed (readAt look frame g) frame g t seen s (w .going) p ls ei in
+          let k : getD seen p 0 ≡ placeInPlane frame g s = unfold lay.placeInPlane in (rw ei at (pl .place)) in
+          record {
+            going = going-step (readAt look frame g) frame g t seen s (w .going) p ls ei r own ed;
+            filled = filled-more (samplesFor look frame g) frame g s buf (w .filled) ok p (getD seen p 0) pl buf′ (eb ed ∙ rw (at-number frame g s a is, at-plane frame g s a is, at-first frame g s a is, at-rows frame g s a is, at-width frame g s a is, k, ei)) el;
+          }

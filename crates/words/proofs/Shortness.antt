@@ -1,14 +1,13 @@
 -- The shortest length of a plane (document 01, "b is .. the plane's shortest word"): some symbol has it and none has a shorter one; it
 -- is at most the longest, and there is none exactly where there is no longest. Assumes nothing.
-use mathlib.Core.Path.{_≡_, refl, sym, ap, _∙_}
+use mathlib.Core.Path.{_≡_, refl, _∙_}
 use mathlib.Core.Logic.{_⊎_, inl, inr, ⊎-elim}
-use Prim.Native.Nat.{ℕ, zero, suc, _+_, _≤_, _<_, min, max}
+use Prim.Native.Nat.{ℕ, zero, suc, _≤_, _<_, max}
 use native.Mathlib.Decide.{decLt}
 use native.Mathlib.Omega.{arith}
 use mathlib.Core.List.{List, [], _∷_}
-use lib.Dec.{eqb}
 use Rattle.scope.specs.Base as base
-use Rattle.scope.specs.Base.{one, count}
+use Rattle.scope.specs.Base.{count}
 use Rattle.scope.specs.Words as words
 use Rattle.scope.specs.Words.{longest, shorter, shortest}
 use Rattle.codes.proofs.Counts.{one-same, one-other}

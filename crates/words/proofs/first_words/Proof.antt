@@ -3,7 +3,6 @@ use Rattle.words.proofs.Walking.{Walks, walking}
 use borrow.Author.Needs.{needs}
 use Rattle.words.proofs.first_words.Statement.{statement}
 use Rattle.words.proofs.first_words.Tie as tie
-use Rattle.words.proofs.first_words.Reads as reads
 
 abbrev Inv-loop : tie.InvT-loop
 Inv-loop m count at₀ a₀ l₀ at a l = Walks count m at a l

@@ -3,7 +3,6 @@ use Rattle.words.proofs.Weighing.{started}
 use borrow.Author.Needs.{needs}
 use Rattle.words.proofs.firsts.Statement.{statement}
 use Rattle.words.proofs.firsts.Tie as tie
-use Rattle.words.proofs.firsts.Reads as reads
 
 tally-requires : tie.Need-tally-requires
 tally-requires c κs = search needs

@@ -3,7 +3,6 @@ use Rattle.words.proofs.Weighing.{weighed-9, weighed-10, weighed-code, 
 use borrow.Author.Needs.{needs}
 use Rattle.words.proofs.weigh.Statement.{statement}
 use Rattle.words.proofs.weigh.Tie as tie
-use Rattle.words.proofs.weigh.Reads as reads
 
 tally-requires : tie.Need-tally-requires
 tally-requires c κs = search needs

@@ -12,7 +12,7 @@ use borrow.Author.Needs.{needs}
 use borrow.Author.Tests.{lt-ltb, le-ltb, le-leb, ltb-false}
 use Rattle.scope.specs.Base.{replaced}
 use Rattle.scope.specs.Refusals.{leftBy}
-use Rattle.scope.specs.Words.{longest, shares, need, tooLong, overfull}
+use Rattle.scope.specs.Words.{longest, shortest, shares, need, tooLong, overfull}
 use Rattle.scope.specs.Lookup.{tableOf}
 use Rattle.scope.specs.Alone.{buildAnswer, workspaceBuilt, BuiltAlone}
 use Rattle.scope.specs.declared.Place.{Place}
@@ -24,7 +24,10 @@ use Rattle.codes.proofs.Kraft.{none-over, over-none}
 use Rattle.words.specs.Weigh.{weighed}
 use Rattle.words.specs.declared.Weighed.{Weighed}
 use Rattle.words.specs.declared.Weighed.the-variants as weigh
-use Rattle.words.proofs.Weighing.{Passes, need-passes, need-is}
+use Rattle.words.proofs.Weighing.{Passes, code-passes, code-longest, code-need}
+use Rattle.alone.specs.Built.{builtBy, BuiltTable}
+use Rattle.alone.specs.declared.Built.{Built}
+use Rattle.alone.specs.declared.Built.the-variants as built
 
 -- ---- the answer
 
@@ -56,21 +59,21 @@ module _ (ls : List ℕ) (w : ℕ) where
       unfolding buildAnswer tooLong
       answer-done h = simp (le-ltb _ _ few, le-ltb _ _ small, over-none ls full, le-ltb _ _ h)
 
--- ---- and the workspace
+-- ---- `build_table`: and the workspace
 
 module _ (ls workspace : List ℕ) where
   -- the refusals that leave it as found
-  pub refused : (n : ℕ) (p : Place) → buildAnswer ls (length workspace) ≡ Refused n p → n ≤ 11 → BuiltAlone ls workspace (Refused n p) workspace
-  unfolding workspaceBuilt leftBy
-  refused n p e h = record { answer = sym e; workspace = rw e (simp (le-leb _ _ h)) }
+  refused : (n : ℕ) (p : Place) → buildAnswer ls (length workspace) ≡ Refused n p → n ≤ 11 → BuiltTable ls workspace (built.Refused n p) workspace
+  unfolding builtBy workspaceBuilt leftBy
+  refused n p e h = record { answer = rw e refl; workspace = rw e (simp (le-leb _ _ h)) }
 
   -- more than 16,384 lengths
-  pub build-4 : 16384 < length ls → BuiltAlone ls workspace (Refused 4 Nothing) workspace
+  pub build-4 : 16384 < length ls → BuiltTable ls workspace (built.Refused 4 Nothing) workspace
   build-4 h = refused 4 Nothing (answer-4 ls (length workspace) h) (omega arith)
 
   module _ (few : length ls ≤ 16384) (o : Weighed) (is : o ≡ weighed ls 0) where
     -- what the lengths get by themselves
-    pub build-refused : (n : ℕ) (p : Place) → o ≡ weigh.Refused n p → BuiltAlone ls workspace (Refused n p) workspace
+    pub build-refused : (n : ℕ) (p : Place) → o ≡ weigh.Refused n p → BuiltTable ls workspace (built.Refused n p) workspace
     unfolding weighed
     build-refused n p e = elim (which (tooLong ls)) [
       | inl a ↦ (
@@ -81,53 +84,98 @@ module _ (ls workspace : List ℕ) where
             let f : weigh.Refused 10 (Plane 0) ≡ weigh.Refused n p = rw (a, b) at (sym is ∙ e) in
             same f (refused 10 (Plane 0) (answer-10 ls (length workspace) few a b) (omega arith)))
         | inr b ↦ (
-            let f : weigh.Need (need ls) ≡ weigh.Refused n p = rw (a, b) at (sym is ∙ e) in
+            let f : weigh.Code (longest ls) (shortest ls) (need ls) ≡ weigh.Refused n p = rw (a, b) at (sym is ∙ e) in
             let z : _≡_ {A = ℕ} 0 1 = cc in
             absurd (omega arith))
       ]
     ]
       where
-        same : {k : ℕ} {q : Place} → weigh.Refused k q ≡ weigh.Refused n p → BuiltAlone ls workspace (Refused k q) workspace
-            → BuiltAlone ls workspace (Refused n p) workspace
+        same : {k : ℕ} {q : Place} → weigh.Refused k q ≡ weigh.Refused n p → BuiltTable ls workspace (built.Refused k q) workspace
+            → BuiltTable ls workspace (built.Refused n p) workspace
         same {k} {q} f b =
-            let g : Refused k q ≡ Refused n p = cc in
-            subst (λ (r : Answer). BuiltAlone ls workspace r workspace) g b
+            let g : built.Refused k q ≡ built.Refused n p = cc in
+            subst (λ (r : Built). BuiltTable ls workspace r workspace) g b
 
-  module _ (few : length ls ≤ 16384) (o : Weighed) (plane : ℕ) (is : o ≡ weighed ls plane) (n : ℕ) (e : o ≡ weigh.Need n) where
-    passes : Passes ls
-    passes = need-passes ls plane n (sym is ∙ e)
+    -- a code, of longest length m and need n
+    module _ (m s n : ℕ) (e : o ≡ weigh.Code m s n) where
+      passes : Passes ls
+      passes = code-passes ls 0 m s n (sym is ∙ e)
 
-    size : n ≡ need ls
-    size = need-is ls plane n (sym is ∙ e)
+      size : n ≡ need ls
+      size = code-need ls 0 m s n (sym is ∙ e)
 
-    -- a workspace shorter than the need
-    pub build-11 : length workspace < n → BuiltAlone ls workspace (Refused 11 Nothing) workspace
-    build-11 h = refused 11 Nothing (answer-11 ls (length workspace) few (passes .small) (passes .full) (omega (arith, size))) (omega arith)
+      -- a workspace shorter than the need
+      pub build-11 : length workspace < n → BuiltTable ls workspace (built.Refused 11 Nothing) workspace
+      build-11 h = refused 11 Nothing (answer-11 ls (length workspace) few (passes .small) (passes .full) (omega (arith, size))) (omega arith)
 
-    -- what `build_part` asks
-    pub part-small : longest ls ≤ 18
-    part-small = passes .small
+      -- what `build_part` asks
+      pub part-small : longest ls ≤ 18
+      part-small = passes .small
 
-    -- and this
-    pub part-full : shares ls ≤ 262144
-    part-full = passes .full
+      pub part-full : shares ls ≤ 262144
+      part-full = passes .full
 
-    -- and as many words as the need
-    pub part-size : n - 0 ≡ need ls
-    part-size = sub-zero n ∙ size
+      -- the longest length
+      pub part-longest : m ≡ longest ls
+      part-longest = code-longest ls 0 m s n (sym is ∙ e)
 
-    -- success leaves the table, and the words past it as found
-    pub build-done : (workspace′ : List ℕ) → n ≤ length workspace → workspace′ ≡ replaced workspace 0 (n - 0) (tableOf ls)
-        → BuiltAlone ls workspace Done workspace′
-    unfolding workspaceBuilt leftBy
-    build-done workspace′ h f =
-        let g : buildAnswer ls (length workspace) ≡ Done = answer-done ls (length workspace) few (passes .small) (passes .full) (omega (arith, size)) in
-        record {
-          answer = sym g;
-          workspace = f ∙ ap (λ (k : ℕ). tableOf ls ++ drop k workspace) part-size ∙ rw g refl;
-        }
+      -- and as many words as the need
+      pub part-size : n - 0 ≡ need ls
+      part-size = sub-zero n ∙ size
 
-pub ruleset building = (build-4, build-refused, build-11, part-small, part-full, part-size, build-done, needs)
+      -- success leaves the table, and the words past it as found
+      pub build-done : (workspace′ : List ℕ) → n ≤ length workspace → workspace′ ≡ replaced workspace 0 (n - 0) (tableOf ls)
+          → BuiltTable ls workspace (built.Table m) workspace′
+      unfolding builtBy workspaceBuilt leftBy
+      build-done workspace′ h f =
+          let g : buildAnswer ls (length workspace) ≡ Done = answer-done ls (length workspace) few (passes .small) (passes .full) (omega (arith, size)) in
+          record {
+            answer = rw (g, part-longest) refl;
+            workspace = f ∙ ap (λ (k : ℕ). tableOf ls ++ drop k workspace) part-size ∙ rw g refl;
+          }
+
+pub ruleset building = (build-4, build-refused, build-11, part-small, part-full, part-longest, part-size, build-done, needs)
+
+-- ---- what `build_table` gives, case by case
+
+no-table : (n m : ℕ) (p : Place) → built.Table m ≡ built.Refused n p → ⊥
+no-table n m p e =
+    let z : _≡_ {A = ℕ} 0 1 = cc in
+    omega arith
+
+-- a refusal
+by-refused : (a : Answer) (n m : ℕ) (p : Place) → built.Refused n p ≡ builtBy a m → Refused n p ≡ a
+unfolding builtBy
+by-refused Done n m p e = absurd (no-table n m p (sym e))
+by-refused (Refused k q) n m p e = cc
+
+-- success
+by-table : (a : Answer) (k m : ℕ) → built.Table k ≡ builtBy a m → (Done ≡ a) × (k ≡ m)
+unfolding builtBy
+by-table Done k m e = (refl, cc)
+by-table (Refused n p) k m e = absurd (no-table n k p e)
+
+module _ (ls workspace : List ℕ) (o : Built) (workspace₁ : List ℕ) (b : BuiltTable ls workspace o workspace₁) where
+  -- a refusal
+  pub told-refused : (n : ℕ) (p : Place) → o ≡ built.Refused n p → BuiltAlone ls workspace (Refused n p) workspace₁
+  told-refused n p e = record {
+    answer = by-refused (buildAnswer ls (length workspace)) n (longest ls) p (sym e ∙ b .answer);
+    workspace = b .workspace;
+  }
+
+  module _ (m : ℕ) (e : o ≡ built.Table m) where
+    -- success
+    pub told-table : BuiltAlone ls workspace Done workspace₁
+    told-table = record {
+      answer = by-table (buildAnswer ls (length workspace)) m (longest ls) (sym e ∙ b .answer) .0;
+      workspace = b .workspace;
+    }
+
+    -- with the longest length
+    pub told-longest : m ≡ longest ls
+    told-longest = by-table (buildAnswer ls (length workspace)) m (longest ls) (sym e ∙ b .answer) .1
+
+pub ruleset told = (told-refused, told-table, needs)
 
 -- ---- what an answer says of the lengths
 

@@ -1,8 +1,8 @@
 -- What a reading by itself answers and leaves, case by case (document 01, "Words and lookup"). Assumes nothing.
 use mathlib.Core.Path.{_≡_, refl, sym, ap, _∙_, subst, subst⁻¹}
-use Prim.Native.Nat.{ℕ, _+_, _^_, _≤_, _<_}
+use Prim.Native.Nat.{ℕ, _^_, _≤_, _<_}
 use native.Mathlib.Omega.{arith}
-use mathlib.Core.List.{List, _++_}
+use mathlib.Core.List.{List}
 use mathlib.Core.Bool.{true}
 use lib.Dec.{leb}
 use lib.ListN.{length, take, drop, replicate}
@@ -14,7 +14,8 @@ use Rattle.scope.specs.Refusals.{_andThen_, leftBy}
 use Rattle.scope.specs.Words.{longest, need, wordAt, Chain, symbols, stuckAt, chainBy, chain}
 use Rattle.scope.specs.Lookup.{tableOf, lookupIn}
 use Rattle.scope.specs.Frame.{readable, symbolsOf}
-use Rattle.scope.specs.Alone.{buildAnswer, workspaceBuilt, BuiltAlone, readAnswer, samplesRead, workspaceRead, ReadAlone}
+use Rattle.scope.specs.Alone.{buildAnswer, workspaceBuilt, readAnswer, samplesRead, workspaceRead, ReadAlone}
+use Rattle.scope.specs.declared.Found.{Found}
 use Rattle.scope.specs.declared.Place.{Place}
 use Rattle.scope.specs.declared.Place.the-variants.{Plane, Nothing}
 use Rattle.scope.specs.declared.Answer.{Answer}
@@ -25,44 +26,31 @@ use Rattle.reader.specs.Reading.{WordsRead, Readable}
 use Rattle.reader.specs.declared.Reached.{Reached}
 use Rattle.reader.specs.declared.Reached.the-variants.{End, Stuck}
 use Rattle.reader.proofs.Chains.{end-chain, stuck-chain, code-readable, code-chain}
-use Rattle.alone.specs.Built.{Built, BuiltRead}
-use Rattle.alone.proofs.Building.{Good, good, low}
+use Rattle.alone.specs.Built.{BuiltTable, TableRead}
+use Rattle.alone.specs.declared.Built.{Built}
+use Rattle.alone.specs.declared.Built.the-variants as built
+use Rattle.alone.proofs.Building.{Good, good, low, told-refused, told-table, told-longest}
 
--- ---- with a table that is built
+-- ---- `read_built`
 
-module _ (ls payload workspace samples : List ℕ) (b : Built ls workspace (length samples)) (m : ℕ) (is : m ≡ longest ls) where
-  looks : (p : ℕ) → lookupIn workspace (longest ls) payload p ≡ wordAt ls payload p
-  looks p = looks-take ls payload p (b .small) (b .full) workspace (b .table)
+module _ (look : ℕ → Found) (workspace samples : List ℕ) (o : Reached) (out workspace′ : List ℕ) (r : WordsRead look 0 (length samples) o out)
+    (z : workspace′ ≡ replicate (length workspace) 0) where
+  -- every word is read
+  pub read-end : (e : ℕ) → o ≡ End e → TableRead look workspace samples Done workspace′ out
+  unfolding readable symbolsOf leftBy
+  read-end e f =
+      let c : chainBy look 0 (length samples) ≡ symbols out =
+      end-chain look 0 (length samples) out e (subst (λ (x : Reached). WordsRead look 0 (length samples) x out) f r) in
+      record { answer = rw c refl; samples = rw c refl; workspace = z }
 
-  -- what the loop over the words asks
-  pub words-asked : Readable (lookupIn workspace m payload) (2 ^ 16) 0 (length samples)
-  words-asked =
-      subst⁻¹ (λ (k : ℕ). Readable (lookupIn workspace k payload) (2 ^ 16) 0 (length samples)) is
-      (code-readable ls workspace payload looks (2 ^ 16) 0 (length samples) (b .small) (omega (arith, b .few)) (omega (arith, b .samples)))
-
-  same-chain : chainBy (lookupIn workspace m payload) 0 (length samples) ≡ chain ls payload 0 (length samples)
-  same-chain = ap (λ (k : ℕ). chainBy (lookupIn workspace k payload) 0 (length samples)) is ∙ code-chain ls workspace payload looks 0 (length samples)
-
-  module _ (o : Reached) (out workspace′ : List ℕ) (r : WordsRead (lookupIn workspace m payload) 0 (length samples) o out)
-      (z : workspace′ ≡ replicate (length workspace) 0) where
-    -- every word is read
-    pub read-end : (e : ℕ) → o ≡ End e → BuiltRead ls payload workspace samples Done workspace′ out
-    unfolding readable symbolsOf leftBy
-    read-end e f =
-        let c : chain ls payload 0 (length samples) ≡ symbols out =
-        sym same-chain ∙ end-chain (lookupIn workspace m payload) 0 (length samples) out e
-        (subst (λ (x : Reached). WordsRead (lookupIn workspace m payload) 0 (length samples) x out) f r) in
-        record { answer = rw c refl; samples = rw c refl; workspace = z }
-
-    -- one fails
-    pub read-stuck : (p : ℕ) → o ≡ Stuck p → (out′ : List ℕ) → out′ ≡ replicate (length out) 0 → length out ≡ length samples
-        → BuiltRead ls payload workspace samples (Refused 14 (Plane 0)) workspace′ out′
-    unfolding readable symbolsOf leftBy
-    read-stuck p f out′ g l =
-        let c : chain ls payload 0 (length samples) ≡ stuckAt p =
-        sym same-chain ∙ stuck-chain (lookupIn workspace m payload) 0 (length samples) out p
-        (subst (λ (x : Reached). WordsRead (lookupIn workspace m payload) 0 (length samples) x out) f r) in
-        record { answer = rw c refl; samples = rw c (g ∙ ap (λ (n : ℕ). replicate n 0) l); workspace = z }
+  -- one fails
+  pub read-stuck : (p : ℕ) → o ≡ Stuck p → (out′ : List ℕ) → out′ ≡ replicate (length out) 0 → length out ≡ length samples
+      → TableRead look workspace samples (Refused 14 (Plane 0)) workspace′ out′
+  unfolding readable symbolsOf leftBy
+  read-stuck p f out′ g l =
+      let c : chainBy look 0 (length samples) ≡ stuckAt p =
+      stuck-chain look 0 (length samples) out p (subst (λ (x : Reached). WordsRead look 0 (length samples) x out) f r) in
+      record { answer = rw c refl; samples = rw c (g ∙ ap (λ (n : ℕ). replicate n 0) l); workspace = z }
 
 -- ---- from the start
 
@@ -91,12 +79,12 @@ module _ (ls payload workspace samples : List ℕ) where
     unfolding readAnswer
     after r e = simp (le-ltb _ _ few, e)
 
-    module _ (o : Answer) (workspace₁ : List ℕ) (b : BuiltAlone ls workspace o workspace₁) where
+    module _ (o : Built) (workspace₁ : List ℕ) (b : BuiltTable ls workspace o workspace₁) where
       -- no table is built
-      pub read-refused : (n : ℕ) (p : Place) → o ≡ Refused n p → ReadAlone ls payload workspace samples (Refused n p) workspace₁ samples
+      pub read-refused : (n : ℕ) (p : Place) → o ≡ built.Refused n p → ReadAlone ls payload workspace samples (Refused n p) workspace₁ samples
       unfolding samplesRead workspaceRead workspaceBuilt leftBy
       read-refused n p f =
-          let e : buildAnswer ls (length workspace) ≡ Refused n p = sym (b .answer) ∙ f in
+          let e : buildAnswer ls (length workspace) ≡ Refused n p = sym (told-refused ls workspace o workspace₁ b n p f .answer) in
           let g : readAnswer ls payload (length samples) (length workspace) ≡ Refused n p = after (Refused n p) e in
           let t : leb n 11 ≡ true = le-leb _ _ (low ls (length workspace) n p e) in
           record {
@@ -105,37 +93,50 @@ module _ (ls payload workspace samples : List ℕ) where
             workspace = b .workspace ∙ rw (e, g) (simp t);
           }
 
-      module _ (d : o ≡ Done) where
+      -- one is, and m is the longest length
+      module _ (m : ℕ) (d : o ≡ built.Table m) where
         is-done : buildAnswer ls (length workspace) ≡ Done
-        is-done = sym (b .answer) ∙ d
+        is-done = sym (told-table ls workspace o workspace₁ b m d .answer)
+
+        is-good : Good ls (length workspace)
+        is-good = good ls (length workspace) is-done
 
         -- the workspace then begins with the table
-        pub built-table : workspace₁ ≡ tableOf ls ++ drop (need ls) workspace
+        begins : take (need ls) workspace₁ ≡ tableOf ls
         unfolding workspaceBuilt leftBy
-        built-table = b .workspace ∙ rw is-done refl
+        begins =
+            ap (take (need ls)) (b .workspace ∙ rw is-done refl)
+            ∙ take-at (tableOf ls) (drop (need ls) workspace) (need ls) (table-length ls)
 
-        -- so a reading may follow
-        pub built : Built ls workspace₁ (length samples)
-        built =
-            let g : Good ls (length workspace) = good ls (length workspace) is-done in
-            record {
-              few = g .few;
-              small = g .small;
-              full = g .full;
-              table = ap (take (need ls)) built-table ∙ take-at (tableOf ls) (drop (need ls) workspace) (need ls) (table-length ls);
-              samples = few;
-            }
+        looks : (p : ℕ) → lookupIn workspace₁ (longest ls) payload p ≡ wordAt ls payload p
+        looks p = looks-take ls payload p (is-good .small) (is-good .full) workspace₁ begins
 
-        -- and the reading follows
-        pub read-built : (r : Answer) (workspace₂ samples₂ : List ℕ) → length workspace₁ ≡ length workspace
-            → BuiltRead ls payload workspace₁ samples r workspace₂ samples₂ → ReadAlone ls payload workspace samples r workspace₂ samples₂
-        read-built r workspace₂ samples₂ l a = record {
-          answer = a .answer ∙ sym e;
-          samples = a .samples ∙ unfold samplesRead in (rw e refl);
-          workspace = a .workspace ∙ ap (λ (n : ℕ). replicate n 0) l ∙ unfold workspaceRead in (sym (ap (λ (x : Answer). leftBy 11 x workspace (zeros workspace) (zeros workspace)) e ∙ cleared workspace (chain ls payload 0 (length samples))));
+        -- what a reading by it asks
+        pub read-asked : Readable (lookupIn workspace₁ m payload) (2 ^ 16) 0 (length samples)
+        read-asked =
+            subst⁻¹ (λ (k : ℕ). Readable (lookupIn workspace₁ k payload) (2 ^ 16) 0 (length samples)) (told-longest ls workspace o workspace₁ b m d)
+            (code-readable ls workspace₁ payload looks (2 ^ 16) 0 (length samples) (is-good .small) (omega (arith, is-good .few)) (omega (arith, few)))
+
+        -- it finds the code's own words
+        same-chain : chainBy (lookupIn workspace₁ m payload) 0 (length samples) ≡ chain ls payload 0 (length samples)
+        same-chain =
+            ap (λ (k : ℕ). chainBy (lookupIn workspace₁ k payload) 0 (length samples)) (told-longest ls workspace o workspace₁ b m d)
+            ∙ code-chain ls workspace₁ payload looks 0 (length samples)
+
+        -- and so the reading is that of the lengths
+        pub read-table : (r : Answer) (workspace₂ samples₂ : List ℕ) → length workspace₁ ≡ length workspace
+            → TableRead (lookupIn workspace₁ m payload) workspace₁ samples r workspace₂ samples₂
+            → ReadAlone ls payload workspace samples r workspace₂ samples₂
+        read-table r workspace₂ samples₂ l a = record {
+          answer = a .answer ∙ ap (readable 0) same-chain ∙ sym e;
+          samples = a .samples
+              ∙ ap (λ (c : Chain). leftBy 11 (readable 0 c) samples (zeros samples) (symbolsOf c)) same-chain
+              ∙ unfold samplesRead in (rw e refl);
+          workspace = a .workspace ∙ ap (λ (n : ℕ). replicate n 0) l
+              ∙ unfold workspaceRead in (sym (ap (λ (x : Answer). leftBy 11 x workspace (zeros workspace) (zeros workspace)) e ∙ cleared workspace (chain ls payload 0 (length samples))));
         }
           where
             e : readAnswer ls payload (length samples) (length workspace) ≡ readable 0 (chain ls payload 0 (length samples))
             e = after Done is-done
 
-pub ruleset readings = (words-asked, read-end, read-stuck, read-4, read-refused, built, read-built, needs)
+pub ruleset readings = (read-end, read-stuck, read-4, read-refused, read-asked, read-table, needs)

@@ -1,26 +1,33 @@
--- What a reading asks of a workspace in which a table is built, and what it answers and leaves (document 01, "Words and lookup").
--- Assumes nothing.
+-- What building a table by itself gives a reading, and what a reading by a table answers and leaves (document 01, "Words and
+-- lookup"). Assumes nothing.
 use mathlib.Core.Path.{_≡_}
-use Prim.Native.Nat.{ℕ, _≤_}
+use Prim.Native.Nat.{ℕ}
 use mathlib.Core.List.{List}
-use lib.ListN.{length, take}
+use lib.ListN.{length}
 use Rattle.scope.specs.Base.{zeros}
 use Rattle.scope.specs.Refusals.{leftBy}
-use Rattle.scope.specs.Words.{longest, shares, need, chain}
-use Rattle.scope.specs.Lookup.{tableOf}
+use Rattle.scope.specs.Words.{longest, chainBy}
 use Rattle.scope.specs.Frame.{readable, symbolsOf}
+use Rattle.scope.specs.Alone.{buildAnswer, workspaceBuilt}
+use Rattle.scope.specs.declared.Found.{Found}
 use Rattle.scope.specs.declared.Answer.{Answer}
+use Rattle.scope.specs.declared.Answer.the-variants as answer
+use Rattle.alone.specs.declared.Built.{Built}
+use Rattle.alone.specs.declared.Built.the-variants.{Table, Refused}
 
--- the lengths pass refusals 4, 9 and 10, the workspace begins with their table, and n samples are not too many
-pub record Built (ls workspace : List ℕ) (n : ℕ) : Type 0 where
-  pub few : length ls ≤ 16384
-  pub small : longest ls ≤ 18
-  pub full : shares ls ≤ 262144
-  pub table : take (need ls) workspace ≡ tableOf ls
-  pub samples : n ≤ 268435456
+-- an answer, with the longest length m beside success
+unfoldable pub builtBy : Answer → ℕ → Built
+builtBy answer.Done m = Table m
+builtBy (answer.Refused n p) m = Refused n p
 
--- the answer is that of the chain, the workspace is wholly zero, and the samples are the chain's symbols, or wholly zero
-pub record BuiltRead (ls payload workspace₀ samples₀ : List ℕ) (r : Answer) (workspace₁ samples₁ : List ℕ) : Type 0 where
-  pub answer : r ≡ readable 0 (chain ls payload 0 (length samples₀))
-  pub samples : samples₁ ≡ leftBy 11 (readable 0 (chain ls payload 0 (length samples₀))) samples₀ (zeros samples₀) (symbolsOf (chain ls payload 0 (length samples₀)))
+-- the answer of a table built by itself, with the longest length, and the workspace
+pub record BuiltTable (ls workspace₀ : List ℕ) (r : Built) (workspace₁ : List ℕ) : Type 0 where
+  pub answer : r ≡ builtBy (buildAnswer ls (length workspace₀)) (longest ls)
+  pub workspace : workspace₁ ≡ workspaceBuilt ls workspace₀
+
+-- A reading by any way to look a word up: the answer is that of the chain, the workspace is wholly zero, and the samples are the
+-- chain's symbols, or wholly zero.
+pub record TableRead (look : ℕ → Found) (workspace₀ samples₀ : List ℕ) (r : Answer) (workspace₁ samples₁ : List ℕ) : Type 0 where
+  pub answer : r ≡ readable 0 (chainBy look 0 (length samples₀))
+  pub samples : samples₁ ≡ leftBy 11 (readable 0 (chainBy look 0 (length samples₀))) samples₀ (zeros samples₀) (symbolsOf (chainBy look 0 (length samples₀)))
   pub workspace : workspace₁ ≡ zeros workspace₀

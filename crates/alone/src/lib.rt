@@ -7,43 +7,64 @@ use reader::words_u16;
 use scope::Answer;
 use scope::Place;
 use words::Weighed;
-use words::longest_of;
 use words::weigh;
-ghost use mathlib.Core.Path.{_≡_};
+ghost use Prim.Native.Nat.{_^_};
 ghost use lib.ListN.{length};
+ghost use Rattle.scope.specs.Lookup.{lookupIn};
 ghost use Rattle.scope.specs.Alone.{BuiltAlone, ReadAlone};
-ghost use Rattle.alone.specs.Built.{Built, BuiltRead};
+ghost use Rattle.reader.specs.Reading.{Readable};
+ghost use Rattle.alone.specs.Built.{BuiltTable, TableRead};
 
-// A table built by itself, in the first words of the workspace; its plane is called plane 0.
-pub fn build(lengths: &[u8], workspace: &mut [u32]) -> Answer
-    ensures { λ r. ⌜ BuiltAlone (now (lengths .entry)) (now (workspace .entry)) r (now (workspace .exit)) ⌝ }
+// What building gives: the longest length, which a reading needs beside the table; or a refusal with its number and place.
+pub(crate) enum Built {
+    Table(usize),
+    Refused(u32, Place),
+}
+
+// The table in the first words of the workspace; its plane is called plane 0. The lengths are scanned once for the checks.
+pub(crate) fn build_table(lengths: &[u8], workspace: &mut [u32]) -> Built
+    ensures { λ r. ⌜ BuiltTable (now (lengths .entry)) (now (workspace .entry)) r (now (workspace .exit)) ⌝ }
 {
     if 16384 < lengths.len() {
-        return Answer::Refused(4, Place::Nothing);
+        return Built::Refused(4, Place::Nothing);
     }
     match weigh(lengths, 0) {
-        Weighed::Refused(n, place) => Answer::Refused(n, place),
-        Weighed::Need(need) => {
+        Weighed::Refused(n, place) => Built::Refused(n, place),
+        Weighed::Code {
+            longest,
+            shortest: _,
+            need,
+        } => {
             if workspace.len() < need {
-                return Answer::Refused(11, Place::Nothing);
+                return Built::Refused(11, Place::Nothing);
             }
-            build_part(lengths, workspace, 0, need);
-            Answer::Done
+            build_part(lengths, longest, workspace, 0, need);
+            Built::Table(longest)
         }
     }
 }
 
-// Reads the samples by a table that is built, and clears the workspace; the samples too where a word fails.
+// A table built by itself.
+pub fn build(lengths: &[u8], workspace: &mut [u32]) -> Answer
+    ensures { λ r. ⌜ BuiltAlone (now (lengths .entry)) (now (workspace .entry)) r (now (workspace .exit)) ⌝ }
+{
+    match build_table(lengths, workspace) {
+        Built::Refused(n, place) => Answer::Refused(n, place),
+        Built::Table(_) => Answer::Done,
+    }
+}
+
+// Reads the samples by a table in the workspace, m being its code's longest length, and clears the workspace; the samples too where
+// a word fails.
 pub(crate) fn read_built(
-    lengths: &[u8],
-    payload: &[u8],
     workspace: &mut [u32],
+    m: usize,
+    payload: &[u8],
     samples: &mut [u16],
 ) -> Answer
-    requires { ⌜ Built (now lengths) (now workspace) (length (now samples)) ⌝ }
-    ensures { λ r. ⌜ BuiltRead (now (lengths .entry)) (now (payload .entry)) (now (workspace .entry)) (now (samples .entry)) r (now (workspace .exit)) (now (samples .exit)) ⌝ }
+    requires { ⌜ Readable (lookupIn (now workspace) m (now payload)) (2 ^ 16) 0 (length (now samples)) ⌝ }
+    ensures { λ r. ⌜ TableRead (lookupIn (now (workspace .entry)) m (now (payload .entry))) (now (workspace .entry)) (now (samples .entry)) r (now (workspace .exit)) (now (samples .exit)) ⌝ }
 {
-    let m = longest_of(lengths);
     let reached = words_u16(workspace, m, payload, 0, samples);
     clear_u32(workspace);
     match reached {
@@ -62,8 +83,8 @@ pub fn read(lengths: &[u8], payload: &[u8], workspace: &mut [u32], samples: &mut
     if 268435456 < samples.len() {
         return Answer::Refused(4, Place::Nothing);
     }
-    match build(lengths, workspace) {
-        Answer::Refused(n, place) => Answer::Refused(n, place),
-        Answer::Done => read_built(lengths, payload, workspace, samples),
+    match build_table(lengths, workspace) {
+        Built::Refused(n, place) => Answer::Refused(n, place),
+        Built::Table(m) => read_built(workspace, m, payload, samples),
     }
 }

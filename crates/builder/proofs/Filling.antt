@@ -1,22 +1,22 @@
 -- The loop that writes one value into a stretch, and the two choices of a word's slots (document 01, "Words and lookup").
 -- Assumes nothing.
 use mathlib.Core.Path.{_≡_, refl, _∙_}
-use Prim.Native.Nat.{ℕ, _+_, _-_, _≤_, _<_, min}
+use Prim.Native.Nat.{ℕ, _+_, _≤_, _<_, min}
 use native.Mathlib.Decide.{ℕ-discrete}
 use native.Mathlib.Omega.{arith}
 use mathlib.Core.List.{List}
 use lib.ListN.{length, getD, set}
 use lib.Seq.{getD-set-same, getD-set-other}
 use borrow.Author.Tests.{le-leb, lt-leb}
-use Rattle.builder.specs.Slots.{slotBits, slotBase, Filled}
+use Rattle.builder.specs.Slots.{slotBits, slotBase, StretchWritten}
 
 -- before the first turn
-pub filled-none : (ws : List ℕ) (from e : ℕ) → Filled ws from 0 e ws
+pub filled-none : (ws : List ℕ) (from e : ℕ) → StretchWritten ws from 0 e ws
 filled-none ws from e = record { inside = λ i h g. absurd (omega arith); before = λ i h. refl; behind = λ i h. refl }
 
 -- one turn
-pub filled-more : (ws : List ℕ) (from k e : ℕ) (ws′ : List ℕ) → from + k < length ws′ → Filled ws from k e ws′
-    → Filled ws from (k + 1) e (set ws′ (from + k) e)
+pub filled-more : (ws : List ℕ) (from k e : ℕ) (ws′ : List ℕ) → from + k < length ws′ → StretchWritten ws from k e ws′
+    → StretchWritten ws from (k + 1) e (set ws′ (from + k) e)
 filled-more ws from k e ws′ b f = record {
   inside = λ i h g. inside i h g (ℕ-discrete i (from + k));
   before = λ i h. getD-set-other ws′ (from + k) i e 0 (omega arith) ∙ f .before i h;

@@ -10,5 +10,5 @@ use Rattle.builder.proofs.build_part as build-part
 use Rattle.builder.proofs.build_part.Reads as build-part-reads
 
 pub build-part-once : (κs : Lfts 2) (a : ArgsD build-part.signature κs) (r₁ r₂ : ResD build-part.signature κs) (s₁ s₂ : AtExit build-part.ended κs)
-    → build-part-reads.Post κs a r₁ s₁ → build-part-reads.Post κs a r₂ s₂ → now (s₁ .1 .0) ≡ now (s₂ .1 .0)
+    → build-part-reads.Post κs a r₁ s₁ → build-part-reads.Post κs a r₂ s₂ → now (s₁ .1 .1 .0) ≡ now (s₂ .1 .1 .0)
 build-part-once κs a r₁ r₂ s₁ s₂ p q = p ∙ sym q

@@ -7,10 +7,13 @@ use native.Mathlib.Numerals.{add-one}
 use native.Mathlib.Decide.{ℕ-discrete, decLe, decLt}
 use native.Mathlib.Omega.{arith}
 use mathlib.Core.List.{List}
+use mir.Syntax.{w32, w64}
+use mir.Val.{Fits}
 use lib.Dec.{eqb}
 use lib.Pow.{pow-pos}
 use lib.ListN.{length, take, getD, set, length-set}
 use lib.Seq.{getD-set-same, getD-set-other}
+use borrow.Author.Needs.{needs}
 use Rattle.scope.specs.Base.{one, count}
 use Rattle.scope.specs.Words.{longest, lengthOf, wordOf, first, heads}
 use Rattle.scope.specs.Lookup.{packed, wordIn}
@@ -19,24 +22,39 @@ use Rattle.memory.proofs.Powers.{shl-one}
 use Rattle.codes.proofs.Table.{slot-hit, slot-miss}
 use Rattle.words.specs.Weigh.{firstsOf}
 use Rattle.words.proofs.Walking.{firsts-at, firsts-length}
-use Rattle.builder.specs.Slots.{slotBits, slotBase, Filled, Row, Ready, Slotted}
+use Rattle.builder.specs.Slots.{slotBits, slotBase, StretchWritten, WordSlots, Ready, Slotted, WordsPlaced}
 use Rattle.builder.proofs.Filling.{bits-first, base-first, bits-second, base-second}
 use Rattle.builder.proofs.Rows.{row-of, of-row, first-room, second-room, short-row, row, apart}
 
 -- ---- what `put` computes
 
-module _ (m l s w n : ℕ) (r : Row m l s w n) (k b : ℕ) (ek : k ≡ slotBits m l) (eb : b ≡ slotBase l) where
+module _ (m l s w n : ℕ) (r : WordSlots m l s w n) (k b : ℕ) (ek : k ≡ slotBits m l) (eb : b ≡ slotBase l) where
   -- how many slots begin with the word
-  pub size-is : 1 * 2 ^ (k - l) % 2 ^ 64 ≡ 2 ^ (slotBits m l - l)
+  size-is : 1 * 2 ^ (k - l) % 2 ^ 64 ≡ 2 ^ (slotBits m l - l)
   size-is = shl-one 64 (k - l) (omega (arith, r .small)) ∙ ap (λ (x : ℕ). 2 ^ (x - l)) ek
 
   -- where they begin
-  pub from-is : b + w * (1 * 2 ^ (k - l) % 2 ^ 64) ≡ slotBase l + w * 2 ^ (slotBits m l - l)
+  from-is : b + w * (1 * 2 ^ (k - l) % 2 ^ 64) ≡ slotBase l + w * 2 ^ (slotBits m l - l)
   from-is = ap₂ (λ (x y : ℕ). x + w * y) eb size-is
 
-  -- and that they lie within the part that is lent
-  pub row-fits : b + w * (1 * 2 ^ (k - l) % 2 ^ 64) + 1 * 2 ^ (k - l) % 2 ^ 64 ≤ n
-  row-fits = rw (from-is, size-is) (r .inside)
+  -- they lie within the part that is lent
+  pub put-room : b + w * (1 * 2 ^ (k - l) % 2 ^ 64) + 1 * 2 ^ (k - l) % 2 ^ 64 ≤ n
+  put-room = rw (from-is, size-is) (r .inside)
+
+  -- so the numbers are small
+  pub put-product : Fits w64 (w * (1 * 2 ^ (k - l) % 2 ^ 64))
+  put-product = record { fits = omega (arith, put-room, r .room) }
+
+  pub put-start : Fits w64 (b + w * (1 * 2 ^ (k - l) % 2 ^ 64))
+  put-start = record { fits = omega (arith, put-room, r .room) }
+
+  -- what is written
+  pub put-written : (ws ws′ : List ℕ)
+      → StretchWritten ws (b + w * (1 * 2 ^ (k - l) % 2 ^ 64)) (1 * 2 ^ (k - l) % 2 ^ 64) (s * 256 + l) ws′
+      → StretchWritten ws (slotBase l + w * 2 ^ (slotBits m l - l)) (2 ^ (slotBits m l - l)) (s * 256 + l) ws′
+  put-written ws ws′ f = subst₂ (λ (x y : ℕ). StretchWritten ws x y (s * 256 + l) ws′) from-is size-is f
+
+pub ruleset putting = (put-room, put-product, put-start, put-written, needs)
 
 -- ---- one part of the table: n slots of k bits, from `base` on
 
@@ -45,7 +63,7 @@ Part ls k base n ws s = (i : ℕ) → i < n → getD ws (base + i) 0 ≡ packed 
 
 -- symbol s's row is written in it
 hits : (ls : List ℕ) (k base n : ℕ) (ws ws′ : List ℕ) (s : ℕ) → 0 < lengthOf ls s → lengthOf ls s ≤ k
-    → Filled ws (base + wordOf ls s * 2 ^ (k - lengthOf ls s)) (2 ^ (k - lengthOf ls s)) (s * 256 + lengthOf ls s) ws′
+    → StretchWritten ws (base + wordOf ls s * 2 ^ (k - lengthOf ls s)) (2 ^ (k - lengthOf ls s)) (s * 256 + lengthOf ls s) ws′
     → Part ls k base n ws s → Part ls k base n ws′ (suc s)
 unfolding packed
 hits ls k base n ws ws′ s z g f p i a = go (decLe from i) (decLt i (from + size))
@@ -80,40 +98,44 @@ to-part ls k n ws s p i a = ap (λ (x : ℕ). getD ws x 0) (zero-add i) ∙ p i 
 of-part : (ls : List ℕ) (k n : ℕ) (ws : List ℕ) (s : ℕ) → Part ls k 0 n ws s → (i : ℕ) → i < n → getD ws i 0 ≡ packed (wordIn ls k i s)
 of-part ls k n ws s p i a = ap (λ (x : ℕ). getD ws x 0) (sym (zero-add i)) ∙ p i a
 
--- ---- before symbol s
-
-pub record Placed (ls : List ℕ) (m n : ℕ) (ws next : List ℕ) (s : ℕ) : Type 0 where
-  pub within : s ≤ length ls
-  pub long : length ws ≡ n
-  pub many : length next ≡ 19
-  pub words : (l : ℕ) → 0 < l → l ≤ 18 → getD next l 0 ≡ first ls l + count l (take s ls)
-  pub slotted : Slotted ls ws s
+-- ---- one symbol after the other
 
 -- before the first symbol every slot is 0
-pub placed-start : (ls : List ℕ) (m n : ℕ) (old ws next : List ℕ) → Ready ls m n → next ≡ firstsOf ls → length ws ≡ n → Filled old 0 n 0 ws
-    → Placed ls m n ws next 0
+pub placed-start : (ls : List ℕ) (m : ℕ) (old ws next : List ℕ) → Ready ls m (length old) → next ≡ firstsOf ls → length ws ≡ length old
+    → StretchWritten old 0 (length old) 0 ws → WordsPlaced ls m ws next 0
 unfolding packed wordIn count
-placed-start ls m n old ws next ok e l f = record {
+placed-start ls m old ws next ok e l f = record {
+  ready = rw l ok;
   within = omega arith;
-  long = l;
   many = ap length e ∙ firsts-length ls;
   words = λ l h g. ap (λ (x : List ℕ). getD x l 0) e ∙ omega (arith, firsts-at ls l h g);
   slotted = record {
-    first = λ i h. f .inside i (omega arith) (omega (arith, first-room ls m n ok));
-    second = λ q i h. f .inside (4096 + i) (omega arith) (omega (arith, second-room ls m n ok q));
+    first = λ i h. f .inside i (omega arith) (omega (arith, first-room ls m (length old) ok));
+    second = λ q i h. f .inside (4096 + i) (omega arith) (omega (arith, second-room ls m (length old) ok q));
   };
 }
 
-module _ (ls : List ℕ) (m n : ℕ) (ok : Ready ls m n) (ws next : List ℕ) (s : ℕ) (p : Placed ls m n ws next s) (in-ls : s < length ls) where
+module _ (ls : List ℕ) (m : ℕ) (ws next : List ℕ) (s : ℕ) (p : WordsPlaced ls m ws next s) (in-ls : s < length ls) where
   -- no length is above 18
-  pub length-small : lengthOf ls s ≤ 18
-  length-small = omega (arith, at-most-longest ls s, ok .small)
+  length-small : lengthOf ls s ≤ 18
+  length-small = omega (arith, at-most-longest ls s, p .ready .small)
+
+  -- so each fits
+  pub length-fits : Fits w64 (lengthOf ls s)
+  length-fits = record { fits = omega (arith, length-small) }
+
+  -- and has a place among the next words
+  pub length-below : lengthOf ls s < 19
+  length-below = omega (arith, length-small)
+
+  pub length-offset : Fits w64 (lengthOf ls s * 4)
+  length-offset = record { fits = omega (arith, length-small) }
 
   -- a symbol with no word
-  pub placed-skip : lengthOf ls s ≤ 0 → Placed ls m n ws next (s + 1)
+  pub placed-skip : lengthOf ls s ≡ 0 → WordsPlaced ls m ws next (s + 1)
   placed-skip o = record {
+    ready = p .ready;
     within = omega arith;
-    long = p .long;
     many = p .many;
     words = λ l h g. p .words l h g ∙ omega (arith, same l h);
     slotted = rw (add-one s) (record {
@@ -125,32 +147,35 @@ module _ (ls : List ℕ) (m n : ℕ) (ok : Ready ls m n) (ws next : List ℕ) (s
       same : (l : ℕ) → 0 < l → count l (take (s + 1) ls) ≡ count l (take s ls)
       same l h = rw (add-one s, count-next ls s l in-ls) (omega (arith, one-other (lengthOf ls s) l (λ (e : lengthOf ls s ≡ l). omega arith)))
 
-  module _ (z : 0 < lengthOf ls s) where
+  module _ (some : lengthOf ls s ≡ 0 → ⊥) where
+    z : 0 < lengthOf ls s
+    z = omega (arith, some)
+
     -- the next word of its length is the symbol's
-    pub word-is : getD next (lengthOf ls s) 0 ≡ wordOf ls s
+    word-is : getD next (lengthOf ls s) 0 ≡ wordOf ls s
     unfolding wordOf
     word-is = p .words (lengthOf ls s) z length-small
 
     -- `put` may write it
-    pub placed-row : Row m (lengthOf ls s) s (getD next (lengthOf ls s) 0) n
-    placed-row = row ls m n ok s in-ls z (getD next (lengthOf ls s) 0) word-is
+    pub placed-row : WordSlots m (lengthOf ls s) s (getD next (lengthOf ls s) 0) (length ws)
+    placed-row = row ls m (length ws) (p .ready) s in-ls z (getD next (lengthOf ls s) 0) word-is
 
-    -- and it is below 2^18
-    pub word-small : getD next (lengthOf ls s) 0 < 266240
-    word-small =
+    -- and one more than it fits
+    pub word-fits-32 : Fits w32 (getD next (lengthOf ls s) 0 + 1)
+    word-fits-32 =
         let r = placed-row in
         let w : ℕ = getD next (lengthOf ls s) 0 in
         let q : 1 ≤ 2 ^ (slotBits m (lengthOf ls s) - lengthOf ls s) = pow-pos (slotBits m (lengthOf ls s) - lengthOf ls s) in
         let t : w * 1 ≤ w * 2 ^ (slotBits m (lengthOf ls s) - lengthOf ls s) = mul-le-mul-left w q in
-        omega (arith, r .inside, r .room)
+        record { fits = omega (arith, r .inside, r .room) }
 
     module _ (ws′ : List ℕ)
-        (f : Filled ws (slotBase (lengthOf ls s) + getD next (lengthOf ls s) 0 * 2 ^ (slotBits m (lengthOf ls s) - lengthOf ls s)) (2 ^ (slotBits m (lengthOf ls s) - lengthOf ls s)) (s * 256 + lengthOf ls s) ws′) where
+        (f : StretchWritten ws (slotBase (lengthOf ls s) + getD next (lengthOf ls s) 0 * 2 ^ (slotBits m (lengthOf ls s) - lengthOf ls s)) (2 ^ (slotBits m (lengthOf ls s) - lengthOf ls s)) (s * 256 + lengthOf ls s) ws′) where
       -- the row in slots of k bits from `base` on
       row-in : (k base : ℕ) → slotBits m (lengthOf ls s) ≡ k → slotBase (lengthOf ls s) ≡ base
-          → Filled ws (base + wordOf ls s * 2 ^ (k - lengthOf ls s)) (2 ^ (k - lengthOf ls s)) (s * 256 + lengthOf ls s) ws′
+          → StretchWritten ws (base + wordOf ls s * 2 ^ (k - lengthOf ls s)) (2 ^ (k - lengthOf ls s)) (s * 256 + lengthOf ls s) ws′
       row-in k base ek eb =
-          subst₂ (λ (x y : ℕ). Filled ws x y (s * 256 + lengthOf ls s) ws′)
+          subst₂ (λ (x y : ℕ). StretchWritten ws x y (s * 256 + lengthOf ls s) ws′)
           (ap₂ (λ (x y : ℕ). x + getD next (lengthOf ls s) 0 * 2 ^ (y - lengthOf ls s)) eb ek
           ∙ ap (λ (x : ℕ). base + x * 2 ^ (k - lengthOf ls s)) word-is)
           (ap (λ (y : ℕ). 2 ^ (y - lengthOf ls s)) ek) f
@@ -158,13 +183,13 @@ module _ (ls : List ℕ) (m n : ℕ) (ok : Ready ls m n) (ws next : List ℕ) (s
       short-put : lengthOf ls s ≤ 12 → Slotted ls ws′ (suc s)
       short-put h =
           let k : ℕ = min (longest ls) 12 in
-          let g = row-in k 0 (bits-first m (lengthOf ls s) h ∙ ap (λ (x : ℕ). min x 12) (ok .is)) (base-first (lengthOf ls s) h) in
+          let g = row-in k 0 (bits-first m (lengthOf ls s) h ∙ ap (λ (x : ℕ). min x 12) (p .ready .is)) (base-first (lengthOf ls s) h) in
           record {
             first = of-part ls k (2 ^ k) ws′ (suc s)
                 (hits ls k 0 (2 ^ k) ws ws′ s z (omega (arith, at-most-longest ls s)) g (to-part ls k (2 ^ k) ws s (p .slotted .first)));
             second = λ q.
                 misses ls (longest ls) 4096 (heads ls * 2 ^ (longest ls - 12)) ws ws′ s
-                (λ i a. g .behind (4096 + i) (early i q)) (λ i a _ _. apart ls m n ok q s i a z h) (p .slotted .second q);
+                (λ i a. g .behind (4096 + i) (early i q)) (λ i a _ _. apart ls m (length ws) (p .ready) q s i a z h) (p .slotted .second q);
           }
         where
           early : (i : ℕ) → 12 < longest ls
@@ -172,11 +197,11 @@ module _ (ls : List ℕ) (m n : ℕ) (ok : Ready ls m n) (ws next : List ℕ) (s
           early i q =
               let e : min (longest ls) 12 ≡ 12 = omega arith in
               let b : 2 ^ min (longest ls) 12 ≡ 4096 = ap (λ (x : ℕ). 2 ^ x) e in
-              omega (arith, short-row ls m n ok s in-ls z h, b)
+              omega (arith, short-row ls m (length ws) (p .ready) s in-ls z h, b)
 
       long-put : 12 < lengthOf ls s → Slotted ls ws′ (suc s)
       long-put h =
-          let g = row-in (longest ls) 4096 (bits-second m (lengthOf ls s) h ∙ ok .is) (base-second (lengthOf ls s) h) in
+          let g = row-in (longest ls) 4096 (bits-second m (lengthOf ls s) h ∙ p .ready .is) (base-second (lengthOf ls s) h) in
           record {
             first = of-part ls (min (longest ls) 12) (2 ^ min (longest ls) 12) ws′ (suc s)
                 (misses ls (min (longest ls) 12) 0 (2 ^ min (longest ls) 12) ws ws′ s
@@ -193,10 +218,10 @@ module _ (ls : List ℕ) (m n : ℕ) (ok : Ready ls m n) (ws next : List ℕ) (s
               omega arith
 
       -- its row is written, and the next word of its length is one more
-      pub placed-put : length ws′ ≡ length ws → Placed ls m n ws′ (set next (lengthOf ls s) (getD next (lengthOf ls s) 0 + 1)) (s + 1)
+      pub placed-put : length ws′ ≡ length ws → WordsPlaced ls m ws′ (set next (lengthOf ls s) (getD next (lengthOf ls s) 0 + 1)) (s + 1)
       placed-put len = record {
+        ready = rw len (p .ready);
         within = omega arith;
-        long = len ∙ p .long;
         many = simp length-set (p .many);
         words = λ l a c. rw (add-one s, count-next ls s l in-ls) (words l a c (ℕ-discrete l (lengthOf ls s)));
         slotted = rw (add-one s) (either (decLe (lengthOf ls s) 12));
@@ -215,7 +240,9 @@ module _ (ls : List ℕ) (m n : ℕ) (ok : Ready ls m n) (ws next : List ℕ) (s
               ∙ omega (arith, p .words l a c, one-other (lengthOf ls s) l (λ (q : lengthOf ls s ≡ l). e (sym q)))
 
 -- after all symbols
-pub placed-end : (ls : List ℕ) (m n : ℕ) (ws next : List ℕ) (s : ℕ) → Placed ls m n ws next s → length ls ≤ s → Slotted ls ws (length ls)
-placed-end ls m n ws next s p h =
+pub placed-end : (ls : List ℕ) (m : ℕ) (ws next : List ℕ) (s : ℕ) → WordsPlaced ls m ws next s → length ls ≤ s → Slotted ls ws (length ls)
+placed-end ls m ws next s p h =
     let e : s ≡ length ls = omega (arith, p .within) in
     subst (λ (x : ℕ). Slotted ls ws x) e (p .slotted)
+
+pub ruleset placing = (placed-start, length-fits, length-below, length-offset, placed-skip, placed-row, word-fits-32, placed-put, placed-end, needs)

@@ -15,7 +15,7 @@ use Rattle.codes.proofs.Words.{first-le-word, word-lt-end, before-shorter}
 use Rattle.codes.proofs.Kraft.{word-fits}
 use Rattle.codes.proofs.Heads.{heads-first, need-small}
 use Rattle.codes.proofs.Table.{need-short, need-long}
-use Rattle.builder.specs.Slots.{slotBits, Row, Ready}
+use Rattle.builder.specs.Slots.{slotBits, WordSlots, Ready}
 use Rattle.builder.proofs.Filling.{bits-first, base-first, bits-second, base-second}
 
 -- ---- a row of slots
@@ -95,7 +95,7 @@ module _ (ls : List ℕ) (m n : ℕ) (ok : Ready ls m n) where
         rw (heads-first ls g (ok .small) (ok .full)) (row-below (wordOf ls s) l 12 (longest ls) (first ls 12) (omega arith) b d)
 
     -- so `put` may write it
-    pub row : (w : ℕ) → w ≡ wordOf ls s → Row m (lengthOf ls s) s w n
+    pub row : (w : ℕ) → w ≡ wordOf ls s → WordSlots m (lengthOf ls s) s w n
     row w e = go (decLe (lengthOf ls s) 12)
       where
         few : s < 16384
@@ -104,7 +104,7 @@ module _ (ls : List ℕ) (m n : ℕ) (ok : Ready ls m n) where
         room : n ≤ 266240
         room = omega (arith, ok .whole, need-small ls (ok .small))
 
-        go : Dec (lengthOf ls s ≤ 12) → Row m (lengthOf ls s) s w n
+        go : Dec (lengthOf ls s ≤ 12) → WordSlots m (lengthOf ls s) s w n
         go (yes h) =
             let k : slotBits m (lengthOf ls s) ≡ min (longest ls) 12 = bits-first m (lengthOf ls s) h ∙ ap (λ (x : ℕ). min x 12) (ok .is) in
             record {

@@ -1,6 +1,6 @@
 -- The slots that are placed, and the marks that lead to the second part, are the table (document 01, "Words and lookup").
 -- Assumes nothing.
-use mathlib.Core.Path.{_≡_, refl, sym, ap, _∙_, subst}
+use mathlib.Core.Path.{_≡_, sym, ap, _∙_, subst}
 use Prim.Native.Nat.{ℕ, _+_, _-_, _*_, _^_, _≤_, _<_, min}
 use native.Mathlib.Decide.{decLe, decLt}
 use native.Mathlib.Omega.{arith}
@@ -8,17 +8,19 @@ use mathlib.Core.Bool.{false}
 use mathlib.Core.List.{List}
 use lib.ListN.{length, getD}
 use lib.Seq.{ext-getD}
-use Rattle.scope.specs.Base.{part}
-use Rattle.scope.specs.Words.{longest, shares, headBelow, heads, first, need}
+use borrow.Author.Needs.{needs}
+use Rattle.scope.specs.Base.{replaced}
+use Rattle.scope.specs.Words.{longest, headBelow, heads, first}
 use Rattle.scope.specs.Lookup.{packed, wordIn, firstPart, tableOf}
-use Rattle.memory.proofs.Parts.{length-part}
 use Rattle.codes.proofs.Heads.{none-at-longest, first-head, no-head, no-head-short, first-small}
 use Rattle.codes.proofs.Table.{need-short, need-long, table-length, table-short, table-first, table-second}
-use Rattle.builder.specs.Slots.{Filled, Ready, Slotted}
+use Rattle.words.specs.Weigh.{firstsOf}
+use Rattle.words.proofs.Walking.{firsts-twelve}
+use Rattle.builder.specs.Slots.{StretchWritten, Ready, Slotted}
 
-module _ (ls : List ℕ) (n : ℕ) (ok : Ready ls (longest ls) n) where
-  -- they lie within the table
-  pub heads-room : first ls 12 ≤ n
+module _ (ls : List ℕ) (m n : ℕ) (ok : Ready ls m n) where
+  -- the marks lie within the table
+  heads-room : first ls 12 ≤ n
   heads-room = elim (decLe (longest ls) 12) [
     | yes h ↦ omega (arith, none-at-longest ls 12 h)
     | no h ↦ (
@@ -26,7 +28,7 @@ module _ (ls : List ℕ) (n : ℕ) (ok : Ready ls (longest ls) n) where
         omega (arith, first-small ls (ok .small) (ok .full) g, ok .whole, need-long ls g))
   ]
 
-  module _ (h : ℕ) (ws ws′ : List ℕ) (is : h ≡ first ls 12) (f : Filled ws 0 h 255 ws′) (p : Slotted ls ws (length ls)) where
+  module _ (h : ℕ) (ws ws′ : List ℕ) (is : h ≡ first ls 12) (f : StretchWritten ws 0 h 255 ws′) (p : Slotted ls ws (length ls)) where
     -- a slot of the first part that is not marked
     plain : (i k : ℕ) → k ≡ min (longest ls) 12 → h ≤ i → i < 2 ^ k → headBelow ls i (length ls) ≡ false → getD ws′ i 0 ≡ firstPart ls k i
     unfolding firstPart
@@ -63,20 +65,29 @@ module _ (ls : List ℕ) (n : ℕ) (ok : Ready ls (longest ls) n) where
         subst (λ (x : ℕ). getD ws′ x 0 ≡ getD (tableOf ls) x 0) e (second-at (i - 4096) g (omega arith))
 
     -- the table is written
-    pub written : length ws′ ≡ n → ws′ ≡ tableOf ls
-    written l = ext-getD 0 ws′ (tableOf ls) (l ∙ ok .whole ∙ sym (table-length ls)) (λ i a. at i (omega arith) (decLe (longest ls) 12))
+    whole : length ws′ ≡ n → ws′ ≡ tableOf ls
+    whole l = ext-getD 0 ws′ (tableOf ls) (l ∙ ok .whole ∙ sym (table-length ls)) (λ i a. at i (omega arith) (decLe (longest ls) 12))
       where
         at : (i : ℕ) → i < n → Dec (longest ls ≤ 12) → getD ws′ i 0 ≡ getD (tableOf ls) i 0
         at i a (yes g) = short-at i g a
         at i a (no g) = long-at i (omega (arith, g)) a (decLt i 4096)
 
--- what `build_part` asks of the part that it lends
-pub part-ready : (ls workspace : List ℕ) (from to : ℕ) → length ls ≤ 16384 → longest ls ≤ 18 → shares ls ≤ 262144
-    → from ≤ to → to ≤ length workspace → to - from ≡ need ls → Ready ls (longest ls) (length (part workspace from (to - from)))
-part-ready ls workspace from to a b c d e f = record {
-  few = a;
-  small = b;
-  full = c;
-  is = refl;
-  whole = length-part workspace from (to - from) (omega (arith, d, e)) ∙ f;
-}
+-- ---- `write_table`: firsts are the first words, and ws has been lent to `place`, which left ws₁, to be marked
+
+module _ (ls : List ℕ) (m : ℕ) (ws firsts ws₁ : List ℕ) (ok : Ready ls m (length ws)) (ef : firsts ≡ firstsOf ls) (same : length ws₁ ≡ length ws) where
+  -- there is room for the marks
+  pub marks-room : 0 + getD firsts 12 0 ≤ length ws₁
+  marks-room = omega (arith, firsts-twelve ls firsts ef, heads-room ls m (length ws) ok, same)
+
+  -- the table is written
+  pub written : Slotted ls ws₁ (length ls) → (ws₂ : List ℕ) → StretchWritten ws₁ 0 (getD firsts 12 0) 255 ws₂ → length ws₂ ≡ length ws₁
+      → ws₂ ≡ tableOf ls
+  written p ws₂ f l = whole ls m (length ws) ok (getD firsts 12 0) ws₁ ws₂ (firsts-twelve ls firsts ef) f p (l ∙ same)
+
+-- ---- `build_part`
+
+-- what is left of the whole
+pub part-written : (ls workspace ws′ : List ℕ) (from n : ℕ) → ws′ ≡ tableOf ls → replaced workspace from n ws′ ≡ replaced workspace from n (tableOf ls)
+part-written ls workspace ws′ from n e = ap (replaced workspace from n) e
+
+pub ruleset writing = (marks-room, written, part-written, needs)

@@ -1,2 +1,5 @@
+pub mod Arrays
+pub mod Weighing
 pub mod Laying
+pub mod Told
 pub mod Once

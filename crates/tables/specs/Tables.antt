@@ -1,19 +1,14 @@
 -- Where the tables of a frame's planes stand in the workspace: one after another, in wire order. Assumes nothing.
 use mathlib.Core.Path.{_≡_}
-use mathlib.Core.List.{List, [], _∷_, _++_}
+use mathlib.Core.List.{List, [], _++_}
 use Prim.Native.Nat.{ℕ, zero, suc, _≤_, _<_}
-use lib.ListN.{length, getD, drop}
+use lib.ListN.{length, drop}
 use Rattle.scope.specs.Base.{part, sumBelow}
 use Rattle.scope.specs.Geometry.{planeCount, lengthsOf}
-use Rattle.scope.specs.Words.{longest, need}
+use Rattle.scope.specs.Words.{need}
 use Rattle.scope.specs.Lookup.{tableOf}
 use Rattle.scope.specs.Frame.{needOfAll}
 use Rattle.scope.specs.declared.Geometry.{Geometry}
-use Rattle.tables.specs.declared.Codes.{Codes}
-
--- four zeros
-abbrev pub zero4 : List ℕ
-zero4 = 0 ∷ 0 ∷ 0 ∷ 0 ∷ []
 
 module _ (g : Geometry) (lengths : List ℕ) where
   -- plane p's need
@@ -37,15 +32,3 @@ module _ (g : Geometry) (lengths : List ℕ) where
   pub record Tables (workspace : List ℕ) : Type 0 where
     pub each : (p : ℕ) → p < planeCount g → part workspace (tableStart p) (planeNeed p) ≡ tableOf (lengthsOf g lengths p)
     pub room : needOfAll g lengths ≤ length workspace
-
-  -- the codes of the planes below i are known; the others are 0
-  pub record Coded (c : Codes) (i : ℕ) : Type 0 where
-    pub from : (p : ℕ) → p < i → getD (c .from) p 0 ≡ tableStart p
-    pub to : (p : ℕ) → p < i → getD (c .to) p 0 ≡ tableStart (suc p)
-    pub longest-is : (p : ℕ) → p < i → getD (c .longest) p 0 ≡ longest (lengthsOf g lengths p)
-    pub no-from : (p : ℕ) → i ≤ p → getD (c .from) p 0 ≡ 0
-    pub no-to : (p : ℕ) → i ≤ p → getD (c .to) p 0 ≡ 0
-    pub no-longest : (p : ℕ) → i ≤ p → getD (c .longest) p 0 ≡ 0
-    pub four-from : length (c .from) ≡ 4
-    pub four-to : length (c .to) ≡ 4
-    pub four-longest : length (c .longest) ≡ 4

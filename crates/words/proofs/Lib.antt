@@ -1,4 +1,6 @@
-pub mod Counting
+pub mod Tallying
+pub mod Shortness
+pub mod Ends
 pub mod Walking
 pub mod Weighing
 pub mod Boundary

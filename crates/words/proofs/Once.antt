@@ -5,16 +5,10 @@ use mathlib.Core.Path.{_≡_, sym, _∙_}
 use contract.Lifetimes.{Lfts}
 use borrow.Fn.World.{ArgsD, ResD}
 use denote.Triple.Clauses.{AtExit}
-use Rattle.words.proofs.longest_of as longest-of
-use Rattle.words.proofs.longest_of.Reads as longest-of-reads
 use Rattle.words.proofs.firsts as firsts
 use Rattle.words.proofs.firsts.Reads as firsts-reads
 use Rattle.words.proofs.weigh as weigh
 use Rattle.words.proofs.weigh.Reads as weigh-reads
-
-pub longest-of-once : (κs : Lfts 1) (a : ArgsD longest-of.signature κs) (r₁ r₂ : ResD longest-of.signature κs) (s₁ s₂ : AtExit longest-of.ended κs)
-    → longest-of-reads.Post κs a r₁ s₁ → longest-of-reads.Post κs a r₂ s₂ → r₁ ≡ r₂
-longest-of-once κs a r₁ r₂ s₁ s₂ p q = p ∙ sym q
 
 pub firsts-once : (κs : Lfts 1) (a : ArgsD firsts.signature κs) (r₁ r₂ : ResD firsts.signature κs) (s₁ s₂ : AtExit firsts.ended κs)
     → firsts-reads.Post κs a r₁ s₁ → firsts-reads.Post κs a r₂ s₂ → r₁ ≡ r₂

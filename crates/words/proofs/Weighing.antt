@@ -1,15 +1,15 @@
--- What the lengths of one plane get, case by case, and what a need says of them (document 01, refusals 9 and 10, and the need).
+-- What the lengths of one plane get, case by case, and what a code says of them (document 01, refusals 9 and 10, and the need).
 -- Assumes nothing.
 use mathlib.Core.Path.{_≡_, refl, sym, ap, _∙_}
 use mathlib.Core.Logic.{inl, inr}
-use Prim.Native.Nat.{ℕ, _-_, _*_, _%_, _^_, _≤_, _<_}
+use Prim.Native.Nat.{ℕ, _-_, _*_, _%_, _^_, _≤_}
 use native.Mathlib.Decide.{decLe}
 use native.Mathlib.Omega.{arith}
 use mathlib.Core.List.{List}
 use mathlib.Core.Bool.{Bool, true, false, not}
-use lib.ListN.{getD}
-use borrow.Author.Tests.{lt-ltb, le-ltb, ltb-false, not-true, not-false}
-use Rattle.scope.specs.Words.{longest, shares, overfull, tooLong, first, need, needFrom}
+use lib.ListN.{length, getD}
+use borrow.Author.Tests.{le-ltb, ltb-false, not-true, not-false}
+use Rattle.scope.specs.Words.{longest, shortest, shares, overfull, tooLong, first, need, needFrom}
 use Rattle.scope.specs.Geometry.{lengthsOf}
 use Rattle.scope.specs.Frame.{lengthCheck}
 use Rattle.scope.specs.declared.Geometry.{Geometry}
@@ -18,10 +18,12 @@ use Rattle.scope.specs.declared.Place.the-variants.{Plane}
 use Rattle.codes.proofs.Counts.{which}
 use Rattle.memory.proofs.Powers.{shl-one}
 use Rattle.codes.proofs.Heads.{need-first, need-small, first-small, second-small, none-at-longest}
-use Rattle.codes.proofs.Kraft.{none-over}
-use Rattle.words.specs.Weigh.{firstsOf, weighed, answerOf}
-use Rattle.words.specs.declared.Weighed.the-variants.{Need, Refused}
+use Rattle.codes.proofs.Kraft.{none-over, over-none}
+use Rattle.words.specs.Tally.{countsOf, highest, lowest, Tallied}
+use Rattle.words.specs.Weigh.{firstsOf, weighed, weighedAnswer, Begun}
+use Rattle.words.specs.declared.Weighed.the-variants.{Code, Refused}
 use Rattle.words.proofs.Walking.{firsts-twelve}
+use Rattle.words.proofs.Ends.{highest-longest, lowest-shortest}
 
 -- ---- `need_from`
 
@@ -52,42 +54,71 @@ test-bad fits over e a = not-false over (sym e ∙ not-true fits a)
 test-good : (fits over : Bool) → fits ≡ not over → not fits ≡ false → (fits ≡ true) × (over ≡ false)
 test-good fits over e a = (not-false fits a, not-true over (sym e ∙ not-false fits a))
 
--- m is what `longest_of` answers, fits and at what `first_words` does
-module _ (ls : List ℕ) (m : ℕ) (em : m ≡ longest ls) where
+-- long and counts are what `tally` gives
+module _ (ls : List ℕ) (few : length ls ≤ 16384) (long : Bool) (el : long ≡ tooLong ls) where
   -- a length above 18
-  pub weighed-9 : (plane : ℕ) → 18 < m → Refused 9 (Plane plane) ≡ weighed ls plane
-  unfolding weighed tooLong
+  pub weighed-9 : (plane : ℕ) → long ≡ true → Refused 9 (Plane plane) ≡ weighed ls plane
+  unfolding weighed
   weighed-9 plane h =
-      let a : 18 < longest ls = omega (arith, h, em) in
-      sym (simp (lt-ltb _ _ a))
+      let a : tooLong ls ≡ true = sym el ∙ h in
+      sym (simp a)
 
-  module _ (h : m ≤ 18) (fits : Bool) (ef : fits ≡ not (overfull ls)) where
-    short : longest ls ≤ 18
-    short = omega (arith, h, em)
+  module _ (counts : List ℕ) (h : long ≡ false) (ec : long ≡ false → counts ≡ countsOf ls) (m : ℕ) (em : m ≡ highest counts 19) where
+    short : tooLong ls ≡ false
+    short = sym el ∙ h
 
-    -- shares that exceed one
-    pub weighed-10 : (plane : ℕ) → not fits ≡ true → Refused 10 (Plane plane) ≡ weighed ls plane
-    unfolding weighed tooLong
-    weighed-10 plane t = sym (simp (le-ltb _ _ short, test-bad fits (overfull ls) ef t))
+    small : longest ls ≤ 18
+    small = unfold tooLong in ltb-false 18 (longest ls) short
 
-    -- shares that do not
-    module _ (at : List ℕ) (t : not fits ≡ false) (ea : fits ≡ true → at ≡ firstsOf ls) where
-      over : overfull ls ≡ false
-      over = test-good fits (overfull ls) ef t .1
+    -- these counts and this longest length
+    pub tallied : Tallied ls counts m
+    tallied = record {
+      few = few;
+      small = small;
+      counted = ec h;
+      is = em ∙ ap (λ (x : List ℕ). highest x 19) (ec h) ∙ highest-longest ls small;
+    }
 
-      is : at ≡ firstsOf ls
-      is = ea (test-good fits (overfull ls) ef t .0)
+    -- fits and at are what `first_words` gives
+    module _ (fits : Bool) (at : List ℕ) (begun : Begun counts m fits at) where
+      -- shares that exceed one
+      pub weighed-10 : (plane : ℕ) → not fits ≡ true → Refused 10 (Plane plane) ≡ weighed ls plane
+      unfolding weighed
+      weighed-10 plane t = sym (simp (short, test-bad fits (overfull ls) (begun .room ls tallied) t))
 
-      -- what `need_from` asks
-      pub twelve-fits : getD at 12 0 ≤ 4096
-      twelve-fits = omega (arith, firsts-twelve ls at is, twelve-small ls short (none-over ls over))
+      -- shares that do not
+      module _ (t : not fits ≡ false) where
+        over : overfull ls ≡ false
+        over = test-good fits (overfull ls) (begun .room ls tallied) t .1
 
-      -- the need
-      pub weighed-need : (plane n : ℕ) → n ≡ needFrom m (getD at 12 0) → Need n ≡ weighed ls plane
-      unfolding weighed tooLong
-      weighed-need plane n f =
-          ap Need (f ∙ ap (λ (x : ℕ). needFrom x (getD at 12 0)) em ∙ need-first ls short (none-over ls over) (getD at 12 0) (λ k. firsts-twelve ls at is))
-          ∙ sym (simp (le-ltb _ _ short, over))
+        is : at ≡ firstsOf ls
+        is = begun .starts ls tallied (test-good fits (overfull ls) (begun .room ls tallied) t .0)
+
+        -- what `need_from` asks
+        pub twelve-fits : getD at 12 0 ≤ 4096
+        twelve-fits = omega (arith, firsts-twelve ls at is, twelve-small ls small (none-over ls over))
+
+        -- the code
+        pub weighed-code : (plane s n : ℕ) → s ≡ lowest counts 1 18 → n ≡ needFrom m (getD at 12 0) → Code m s n ≡ weighed ls plane
+        unfolding weighed
+        weighed-code plane s n es en =
+            let a : s ≡ shortest ls = es ∙ ap (λ (x : List ℕ). lowest x 1 18) (ec h) ∙ lowest-shortest ls small in
+            let b : n ≡ need ls =
+            en ∙ ap (λ (x : ℕ). needFrom x (getD at 12 0)) (tallied .is)
+            ∙ need-first ls small (none-over ls over) (getD at 12 0) (λ k. firsts-twelve ls at is) in
+            rw (tallied .is, a, b) (sym (simp (short, over)))
+
+-- ---- `firsts`
+
+-- the lengths are known to pass
+pub started : (ls : List ℕ) → length ls ≤ 16384 → longest ls ≤ 18 → shares ls ≤ 262144 → (long : Bool) → long ≡ tooLong ls
+    → (counts : List ℕ) → (long ≡ false → counts ≡ countsOf ls) → (m : ℕ) → m ≡ highest counts 19
+    → (fits : Bool) (at : List ℕ) → Begun counts m fits at → at ≡ firstsOf ls
+unfolding tooLong
+started ls few small full long el counts ec m em fits at begun =
+    let h : long ≡ false = el ∙ le-ltb 18 (longest ls) small in
+    let t : Tallied ls counts m = tallied ls few long el counts h ec m em in
+    begun .starts ls t (begun .room ls t ∙ ap not (over-none ls full))
 
 -- ---- what the cases say
 
@@ -98,41 +129,60 @@ pub record Passes (ls : List ℕ) : Type 0 where
   -- and their need is at most 4,096 + 2^18 workspace words
   pub bounded : need ls ≤ 266240
 
-no-need : (k n : ℕ) (p : Place) → Refused k p ≡ Need n → ⊥
-no-need k n p e =
+no-code : (k m s n : ℕ) (p : Place) → Refused k p ≡ Code m s n → ⊥
+no-code k m s n p e =
     let z : _≡_ {A = ℕ} 0 1 = cc in
     omega arith
 
-module _ (ls : List ℕ) (plane n : ℕ) where
-  passed : weighed ls plane ≡ Need n → Passes ls × (n ≡ need ls)
+-- a plane's lengths get a code
+module _ (ls : List ℕ) (plane m s n : ℕ) where
+  -- what it says
+  record Says : Type 0 where
+    pub passes : Passes ls
+    pub longest-is : m ≡ longest ls
+    pub shortest-is : s ≡ shortest ls
+    pub need-is : n ≡ need ls
+
+  says : weighed ls plane ≡ Code m s n → Says
   unfolding weighed
-  passed e = elim (which (tooLong ls)) [
-    | inl a ↦ absurd (no-need 9 n (Plane plane) (rw a at e))
+  says e = elim (which (tooLong ls)) [
+    | inl a ↦ absurd (no-code 9 m s n (Plane plane) (rw a at e))
     | inr a ↦ elim (which (overfull ls)) [
-      | inl b ↦ absurd (no-need 10 n (Plane plane) (rw (a, b) at e))
+      | inl b ↦ absurd (no-code 10 m s n (Plane plane) (rw (a, b) at e))
       | inr b ↦ (
-          let f : Need (need ls) ≡ Need n = rw (a, b) at e in
+          let f : Code (longest ls) (shortest ls) (need ls) ≡ Code m s n = rw (a, b) at e in
           let k : longest ls ≤ 18 = unfold tooLong in ltb-false 18 (longest ls) a in
-          let g : need ls ≡ n = cc in
-          (record { small = k; full = none-over ls b; bounded = need-small ls k }, sym g))
+          let x : longest ls ≡ m = cc in
+          let y : shortest ls ≡ s = cc in
+          let z : need ls ≡ n = cc in
+          record {
+            passes = record { small = k; full = none-over ls b; bounded = need-small ls k };
+            longest-is = sym x;
+            shortest-is = sym y;
+            need-is = sym z;
+          })
     ]
   ]
 
-  -- a need says that the lengths pass
-  pub need-passes : weighed ls plane ≡ Need n → Passes ls
-  need-passes e = passed e .0
+  module _ (e : weighed ls plane ≡ Code m s n) where
+    -- the lengths pass
+    pub code-passes : Passes ls
+    code-passes = says e .passes
 
-  -- and is the need
-  pub need-is : weighed ls plane ≡ Need n → n ≡ need ls
-  need-is e = passed e .1
+    -- the longest length is theirs
+    pub code-longest : m ≡ longest ls
+    code-longest = says e .longest-is
 
--- lengths that pass get their need
-pub passes-need : (ls : List ℕ) (plane : ℕ) → longest ls ≤ 18 → overfull ls ≡ false → weighed ls plane ≡ Need (need ls)
-unfolding weighed tooLong
-passes-need ls plane a b = simp (le-ltb _ _ a, b)
+    -- the shortest is
+    pub code-shortest : s ≡ shortest ls
+    code-shortest = says e .shortest-is
+
+    -- and so is the need
+    pub code-need : n ≡ need ls
+    code-need = says e .need-is
 
 -- the answer of the lengths of plane p is the frame's check of that plane
-pub weighed-check : (g : Geometry) (lengths : List ℕ) (p : ℕ) → answerOf (weighed (lengthsOf g lengths p) p) ≡ lengthCheck g lengths p
+pub weighed-check : (g : Geometry) (lengths : List ℕ) (p : ℕ) → weighedAnswer (weighed (lengthsOf g lengths p) p) ≡ lengthCheck g lengths p
 unfolding weighed lengthCheck
 weighed-check g lengths p = elim (which (tooLong (lengthsOf g lengths p))) [
   | inl a ↦ rw a refl

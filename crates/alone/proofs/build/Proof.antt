@@ -1,46 +1,38 @@
 -- `build` answers and leaves what a table built by itself does (document 01, "Words and lookup").
+use Rattle.alone.proofs.Building.{told}
 use borrow.Author.Needs.{needs}
-use Rattle.alone.proofs.Building.{building}
 use Rattle.alone.proofs.build.Statement.{statement}
 use Rattle.alone.proofs.build.Tie as tie
 
-returns : tie.Need-returns
-returns c = search building
-
-weigh-requires : tie.Need-weigh-requires
-weigh-requires c κs = search needs
+build-table-requires : tie.Need-build-table-requires
+build-table-requires c κs = search needs
 
 enum-known-n : tie.Need-enum-known-n
 enum-known-n c = search needs
 
-enum-known-need : tie.Need-enum-known-need
-enum-known-need c = search needs
-
-returns-2 : tie.Need-returns-2
-returns-2 c = search building
-
-build-part-requires : tie.Need-build-part-requires
-build-part-requires c κs = search building
-
-returns-3 : tie.Need-returns-3
-returns-3 c = search building
+enum-told : tie.Need-enum-told
+enum-told c = search needs
 
 same-length : tie.Need-same-length
 same-length c = search needs
 
-returns-4 : tie.Need-returns-4
-returns-4 c = search building
+returns : tie.Need-returns
+returns c = search told
+
+same-length-2 : tie.Need-same-length-2
+same-length-2 c = search needs
+
+returns-2 : tie.Need-returns-2
+returns-2 c = search told
 
 pub build-spec : {M : Type 1} → statement M
 build-spec =
     tie.close
     (tie.spec
-    returns
-    weigh-requires
+    build-table-requires
     enum-known-n
-    enum-known-need
-    returns-2
-    build-part-requires
-    returns-3
+    enum-told
     same-length
-    returns-4)
+    returns
+    same-length-2
+    returns-2)

@@ -1,20 +1,20 @@
 -- `read` answers and leaves what a reading by itself does (document 01, "Words and lookup").
-use borrow.Author.Needs.{needs}
 use Rattle.alone.proofs.Reading.{readings}
+use borrow.Author.Needs.{needs}
 use Rattle.alone.proofs.read.Statement.{statement}
 use Rattle.alone.proofs.read.Tie as tie
 
 returns : tie.Need-returns
 returns c = search readings
 
-build-requires : tie.Need-build-requires
-build-requires c κs = search needs
+build-table-requires : tie.Need-build-table-requires
+build-table-requires c κs = search needs
 
 enum-known-n : tie.Need-enum-known-n
 enum-known-n c = search needs
 
-enum-told : tie.Need-enum-told
-enum-told c = search needs
+enum-known-m : tie.Need-enum-known-m
+enum-known-m c = search needs
 
 read-built-requires : tie.Need-read-built-requires
 read-built-requires c κs = search readings
@@ -39,9 +39,9 @@ read-spec =
     tie.close
     (tie.spec
     returns
-    build-requires
+    build-table-requires
     enum-known-n
-    enum-told
+    enum-known-m
     read-built-requires
     same-length
     returns-2

@@ -1,14 +1,11 @@
 -- `read_built` reads by a table that is built, and clears (document 01, "Words and lookup").
-use borrow.Author.Needs.{needs}
 use Rattle.alone.proofs.Reading.{readings}
+use borrow.Author.Needs.{needs}
 use Rattle.alone.proofs.read_built.Statement.{statement}
 use Rattle.alone.proofs.read_built.Tie as tie
 
-longest-of-requires : tie.Need-longest-of-requires
-longest-of-requires c κs = search needs
-
 words-u16-requires : tie.Need-words-u16-requires
-words-u16-requires c κs = search readings
+words-u16-requires c κs = search needs
 
 clear-u32-requires : tie.Need-clear-u32-requires
 clear-u32-requires c κs = search needs
@@ -44,7 +41,6 @@ pub read-built-spec : {M : Type 1} → statement M
 read-built-spec =
     tie.close
     (tie.spec
-    longest-of-requires
     words-u16-requires
     clear-u32-requires
     enum-known-reached

@@ -1,10 +1,6 @@
 -- `build_part` writes a plane's table into its stretch of the workspace (document 01, "Words and lookup").
-use mathlib.Core.Path.{ap}
-use mathlib.Core.List.{List}
-use Prim.Native.Nat.{_-_}
+use Rattle.builder.proofs.Written.{writing}
 use borrow.Author.Needs.{needs}
-use Rattle.scope.specs.Base.{replaced}
-use Rattle.builder.proofs.Written.{part-ready}
 use Rattle.builder.proofs.build_part.Statement.{statement}
 use Rattle.builder.proofs.build_part.Tie as tie
 
@@ -21,15 +17,13 @@ part-write-table-end : tie.Need-part-write-table-end
 part-write-table-end c = search needs
 
 write-table-requires : tie.Need-write-table-requires
-write-table-requires c κs = search part-ready
+write-table-requires c κs = search needs
 
 same-length : tie.Need-same-length
 same-length c = search needs
 
 returns : tie.Need-returns
-returns c =
-    let a = c .before .before .before .before .before .before .args in
-    ap (λ (l : List _). replaced (a .workspace .now) (a .from) (a .to - a .from) l) (c .before .before .write-table .ensures)
+returns c = search writing
 
 pub build-part-spec : {M : Type 1} → statement M
 build-part-spec =

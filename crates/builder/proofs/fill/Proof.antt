@@ -3,13 +3,13 @@ use mathlib.Core.Path.{_≡_, refl, subst}
 use Prim.Native.Nat.{ℕ, _≤_, _<_, _-_, _+_}
 use native.Mathlib.Omega.{arith}
 use lib.ListN.{length, length-set}
-use Rattle.builder.specs.Slots.{Filled}
+use Rattle.builder.specs.Slots.{StretchWritten}
 use Rattle.builder.proofs.Filling.{filled-none, filled-more}
 use Rattle.builder.proofs.fill.Statement.{statement}
 use Rattle.builder.proofs.fill.Tie as tie
 
 abbrev Inv-loop : tie.InvT-loop
-Inv-loop ws₀ from n e k₀ ws k = (length ws ≡ length ws₀) × (k ≤ n) × Filled ws₀ from k e ws
+Inv-loop ws₀ from n e k₀ ws k = (length ws ≡ length ws₀) × (k ≤ n) × StretchWritten ws₀ from k e ws
 
 abbrev μ-loop : tie.MeasureT-loop
 μ-loop ws₀ from n e k₀ ws k = n - k
@@ -47,7 +47,7 @@ returns c =
     let h = c .before .loop in
     let a = c .before .before .args in
     let done : h .k ≡ a .n = omega arith in
-    subst (λ (x : ℕ). Filled (a .ws .now) (a .from) x (a .e) (h .ws)) done (h .inv .2)
+    subst (λ (x : ℕ). StretchWritten (a .ws .now) (a .from) x (a .e) (h .ws)) done (h .inv .2)
 
 pub fill-spec : {M : Type 1} → statement M
 fill-spec =

@@ -1,10 +1,6 @@
 -- `put` writes one symbol's row of slots (document 01, "Words and lookup").
-use mathlib.Core.Path.{subst₂}
-use Prim.Native.Nat.{ℕ, _+_, _*_}
-use native.Mathlib.Omega.{arith}
+use Rattle.builder.proofs.Placing.{putting}
 use borrow.Author.Needs.{needs}
-use Rattle.builder.specs.Slots.{Filled}
-use Rattle.builder.proofs.Placing.{size-is, from-is, row-fits}
 use Rattle.builder.proofs.put.Statement.{statement}
 use Rattle.builder.proofs.put.Tie as tie
 
@@ -21,16 +17,10 @@ slot-base-requires : tie.Need-slot-base-requires
 slot-base-requires c κs = search needs
 
 mul-from : tie.Need-mul-from
-mul-from c =
-    let s = c .before .before .before in
-    let a = s .args in
-    omega (arith, row-fits (a .m) (a .l) (a .s) (a .w) _ (s .pre) _ _ (c .before .slot-bits .ensures) (c .slot-base .ensures), s .pre .room)
+mul-from c = search putting
 
 add-from : tie.Need-add-from
-add-from c =
-    let s = c .before .before .before in
-    let a = s .args in
-    omega (arith, row-fits (a .m) (a .l) (a .s) (a .w) _ (s .pre) _ _ (c .before .slot-bits .ensures) (c .slot-base .ensures), s .pre .room)
+add-from c = search putting
 
 mul-fill : tie.Need-mul-fill
 mul-fill c = search needs
@@ -42,23 +32,13 @@ cast-fill : tie.Need-cast-fill
 cast-fill c = search needs
 
 fill-requires : tie.Need-fill-requires
-fill-requires c κs =
-    let s = c .before .before .before .before in
-    let a = s .args in
-    row-fits (a .m) (a .l) (a .s) (a .w) _ (s .pre) _ _ (c .before .before .slot-bits .ensures) (c .before .slot-base .ensures)
+fill-requires c κs = search putting
 
 same-length : tie.Need-same-length
 same-length c = search needs
 
 returns : tie.Need-returns
-returns c =
-    let s = c .before .before .before .before .before .before .before in
-    let a = s .args in
-    let k = c .before .before .before .before .before .slot-bits in
-    let b = c .before .before .before .before .slot-base in
-    subst₂ (λ (x y : ℕ). Filled (a .ws .now) x y (a .s * 256 + a .l) (c .before .before .fill .last .0))
-    (from-is (a .m) (a .l) (a .s) (a .w) _ (s .pre) _ _ (k .ensures) (b .ensures))
-    (size-is (a .m) (a .l) (a .s) (a .w) _ (s .pre) _ _ (k .ensures) (b .ensures)) (c .before .before .fill .ensures)
+returns c = search putting
 
 pub put-spec : {M : Type 1} → statement M
 put-spec =

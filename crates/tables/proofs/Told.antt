@@ -1,0 +1,167 @@
+-- What the codes of a frame tell their callers, field by field: the answer of 9 and 10, and, where no plane is refused, each plane's stretch
+-- of the workspace, its longest and its shortest length, and all needs together. Assumes nothing.
+use mathlib.Core.Path.{_≡_, refl, sym, ap, ap₂, _∙_}
+use mathlib.Core.List.{List}
+use Prim.Native.Nat.{ℕ, suc, _+_, _-_, _≤_, _<_}
+use native.Mathlib.Omega.{arith}
+use borrow.Author.Tests.{ltb-false}
+use lib.ListN.{length, getD}
+use Rattle.scope.specs.Base as base
+use Rattle.scope.specs.Base.{part}
+use Rattle.scope.specs.Refusals.{inOrder}
+use Rattle.scope.specs.Geometry.{planeCount, lengthsOf}
+use Rattle.scope.specs.Words as wrd
+use Rattle.scope.specs.Words.{longest, shortest, shares, tooLong, overfull}
+use Rattle.scope.specs.Lookup.{tableOf}
+use Rattle.scope.specs.Frame as frm
+use Rattle.scope.specs.Frame.{lengthCheck, needOfAll}
+use Rattle.scope.specs.declared.Geometry.{Geometry}
+use Rattle.scope.specs.declared.Answer.{Answer}
+use Rattle.scope.specs.declared.Answer.the-variants.{Done, Refused}
+use Rattle.words.proofs.Shortness.{shortest-most}
+use Rattle.geometry.proofs.Places.{planes-most}
+use Rattle.geometry.proofs.Order.{sum-next}
+use Rattle.refusals.proofs.InOrder.{both-passed, each-passed}
+use Rattle.tables.specs.Tables.{planeNeed, tableStart, Tables}
+use Rattle.tables.specs.Codes.{noCodes, codesUpTo, codesBy, codesOf}
+use Rattle.tables.specs.declared.Codes.{Codes}
+use Rattle.tables.proofs.Arrays.{per-four, per-at}
+
+-- ---- lengths that pass 9 and 10
+
+module _ (g : Geometry) (lengths : List ℕ) (p : ℕ) where
+  pub plane-short : Done ≡ lengthCheck g lengths p → longest (lengthsOf g lengths p) ≤ 18
+  unfolding frm.lengthCheck wrd.tooLong
+  plane-short e = ltb-false _ _ (both-passed (tooLong (lengthsOf g lengths p)) (overfull (lengthsOf g lengths p)) 9 10 _ _ e .0)
+
+  pub plane-full : Done ≡ lengthCheck g lengths p → shares (lengthsOf g lengths p) ≤ 262144
+  unfolding frm.lengthCheck wrd.overfull
+  plane-full e = ltb-false _ _ (both-passed (tooLong (lengthsOf g lengths p)) (overfull (lengthsOf g lengths p)) 9 10 _ _ e .1)
+
+-- ---- the codes by their answer
+
+module _ (g : Geometry) (lengths : List ℕ) where
+  by-answer : (a : Answer) → codesBy g lengths a .answer ≡ a
+  unfolding codesBy codesUpTo noCodes
+  by-answer Done = refl
+  by-answer (Refused n p) = refl
+
+  by-from : (a : Answer) → length (codesBy g lengths a .from) ≡ 4
+  unfolding codesBy codesUpTo noCodes
+  by-from Done = per-four _ _
+  by-from (Refused n p) = refl
+
+  by-to : (a : Answer) → length (codesBy g lengths a .to) ≡ 4
+  unfolding codesBy codesUpTo noCodes
+  by-to Done = per-four _ _
+  by-to (Refused n p) = refl
+
+  by-longest : (a : Answer) → length (codesBy g lengths a .longest) ≡ 4
+  unfolding codesBy codesUpTo noCodes
+  by-longest Done = per-four _ _
+  by-longest (Refused n p) = refl
+
+  by-shortest : (a : Answer) → length (codesBy g lengths a .shortest) ≡ 4
+  unfolding codesBy codesUpTo noCodes
+  by-shortest Done = per-four _ _
+  by-shortest (Refused n p) = refl
+
+-- ---- c is the codes of g and lengths
+
+module _ (g : Geometry) (lengths : List ℕ) (c : Codes) (is : c ≡ codesOf g lengths) where
+  -- what 9 and 10 say
+  pub answer-is : c .answer ≡ inOrder (planeCount g) (lengthCheck g lengths)
+  unfolding codesOf
+  answer-is = ap (λ (x : Codes). x .answer) is ∙ by-answer g lengths (inOrder (planeCount g) (lengthCheck g lengths))
+
+  -- each array has four elements
+  pub four-from : length (c .from) ≡ 4
+  unfolding codesOf
+  four-from = ap (λ (x : Codes). length (x .from)) is ∙ by-from g lengths (inOrder (planeCount g) (lengthCheck g lengths))
+
+  pub four-to : length (c .to) ≡ 4
+  unfolding codesOf
+  four-to = ap (λ (x : Codes). length (x .to)) is ∙ by-to g lengths (inOrder (planeCount g) (lengthCheck g lengths))
+
+  pub four-longest : length (c .longest) ≡ 4
+  unfolding codesOf
+  four-longest = ap (λ (x : Codes). length (x .longest)) is ∙ by-longest g lengths (inOrder (planeCount g) (lengthCheck g lengths))
+
+  pub four-shortest : length (c .shortest) ≡ 4
+  unfolding codesOf
+  four-shortest = ap (λ (x : Codes). length (x .shortest)) is ∙ by-shortest g lengths (inOrder (planeCount g) (lengthCheck g lengths))
+
+  -- no plane is refused
+  module _ (ok : c .answer ≡ Done) where
+    pub all-passed : Done ≡ inOrder (planeCount g) (lengthCheck g lengths)
+    all-passed = sym ok ∙ answer-is
+
+    known : c ≡ codesUpTo g lengths (planeCount g)
+    unfolding codesOf codesBy
+    known = is ∙ ap (codesBy g lengths) (sym all-passed)
+
+    -- all needs together
+    pub need-is : c .need ≡ needOfAll g lengths
+    unfolding codesUpTo tableStart frm.needOfAll
+    need-is = ap (λ (x : Codes). x .need) known
+
+    -- plane p
+    module _ (p : ℕ) (l : p < planeCount g) where
+      pub plane-four : p < 4
+      plane-four = omega (arith, l, planes-most (g .family))
+
+      -- passes
+      pub plane-passed : Done ≡ lengthCheck g lengths p
+      plane-passed = each-passed (lengthCheck g lengths) (planeCount g) p all-passed l
+
+      -- its table starts here
+      pub from-is : getD (c .from) p 0 ≡ tableStart g lengths p
+      unfolding codesUpTo
+      from-is = ap (λ (x : Codes). getD (x .from) p 0) known ∙ per-at (planeCount g) (tableStart g lengths) p plane-four l
+
+      -- and ends here
+      pub to-is : getD (c .to) p 0 ≡ tableStart g lengths (suc p)
+      unfolding codesUpTo
+      to-is = ap (λ (x : Codes). getD (x .to) p 0) known ∙ per-at (planeCount g) (λ q. tableStart g lengths (suc q)) p plane-four l
+
+      -- its longest length
+      pub longest-is : getD (c .longest) p 0 ≡ longest (lengthsOf g lengths p)
+      unfolding codesUpTo
+      longest-is = ap (λ (x : Codes). getD (x .longest) p 0) known ∙ per-at (planeCount g) (λ q. longest (lengthsOf g lengths q)) p plane-four l
+
+      -- its shortest
+      pub shortest-is : getD (c .shortest) p 0 ≡ shortest (lengthsOf g lengths p)
+      unfolding codesUpTo
+      shortest-is = ap (λ (x : Codes). getD (x .shortest) p 0) known ∙ per-at (planeCount g) (λ q. shortest (lengthsOf g lengths q)) p plane-four l
+
+      -- neither is above 18
+      pub longest-small : getD (c .longest) p 0 ≤ 18
+      longest-small = omega (arith, longest-is, plane-short g lengths p plane-passed)
+
+      pub shortest-small : getD (c .shortest) p 0 ≤ 18
+      shortest-small = omega (arith, shortest-is, shortest-most (lengthsOf g lengths p), plane-short g lengths p plane-passed)
+
+      pub shortest-byte : getD (c .shortest) p 0 < 256
+      shortest-byte = omega (arith, shortest-small)
+
+      -- its stretch is as long as its need
+      pub stretch-long : getD (c .to) p 0 ≡ getD (c .from) p 0 + planeNeed g lengths p
+      unfolding tableStart base.sumBelow
+      stretch-long = to-is ∙ ap (λ (x : ℕ). x + planeNeed g lengths p) (sym from-is)
+
+      pub stretch-ahead : getD (c .from) p 0 ≤ getD (c .to) p 0
+      stretch-ahead = omega (arith, stretch-long)
+
+      pub stretch-size : getD (c .to) p 0 - getD (c .from) p 0 ≡ planeNeed g lengths p
+      stretch-size = omega (arith, stretch-long)
+
+      -- it lies within as many words as all need
+      pub stretch-room : (words : ℕ) → needOfAll g lengths ≤ words → getD (c .to) p 0 ≤ words
+      unfolding tableStart frm.needOfAll
+      stretch-room words h = omega (arith, stretch-long, from-is, sum-next (planeNeed g lengths) p (planeCount g) l)
+
+      -- and holds the table, where the tables are built
+      pub stretch-table : (workspace : List ℕ) → Tables g lengths workspace
+          → part workspace (getD (c .from) p 0) (getD (c .to) p 0 - getD (c .from) p 0) ≡ tableOf (lengthsOf g lengths p)
+      stretch-table workspace t =
+          ap₂ (λ (x y : ℕ). part workspace x y) from-is stretch-size ∙ t .each p l

@@ -1,18 +1,18 @@
 -- One sample of a buffer: read and stored, it is read and stored in the samples too, and a store keeps the gaps. Assumes nothing.
 use mathlib.Core.Path.{_≡_, refl, sym, ap, _∙_}
-use mathlib.Core.Bool.{Bool, true, false}
-use mathlib.Core.List.{List, [], _∷_, _++_, append-assoc}
-use Prim.Native.Nat.{ℕ, zero, suc, _+_, _-_, _*_, _≤_, _<_}
-use native.Mathlib.Nat.{zero-add, suc-add, suc-mul, mul-le-mul-right}
+use mathlib.Core.Bool.{Bool, true}
+use mathlib.Core.List.{List, [], _∷_, _++_}
+use Prim.Native.Nat.{ℕ, suc, _+_, _*_, _≤_, _<_}
+use native.Mathlib.Nat.{suc-mul, mul-le-mul-right}
 use native.Mathlib.Omega.{arith}
-use lib.ListN.{length, take, drop, getD, set, replicate, length-replicate, length-set, take-append-drop}
+use lib.ListN.{length, take, drop, getD, set, replicate, length-replicate, take-append-drop}
 use lib.Seq.{drop-cons, set-at, length-take-le, drop-drop, getD-take, getD-drop}
 use native.Mathlib.Numerals.{add-one}
-use Rattle.scope.specs.Base.{part, replaced, one}
+use Rattle.scope.specs.Base.{part, replaced}
 use Rattle.memory.proofs.Parts.{length-part}
 use Rattle.views.specs.Places.{samplesAt, gapsAt, howMany, rowsPlaces}
 use Rattle.views.proofs.Views.{samples-many, samples-all, gaps-all, many-all}
-use Rattle.views.proofs.Windows.{Window, window-room, window-many, window-in, window-part, window-put, window-keeps, rows-long, rows-many, row-window, trues-window}
+use Rattle.views.proofs.Windows.{Window, window-room, window-many, window-in, window-part, window-put, window-keeps, rows-long, row-window, trues-window}
 
 -- a store is a part of one element that is replaced
 set-put : (s : List ℕ) (i v : ℕ) → i < length s → replaced s i 1 (v ∷ []) ≡ set s i v

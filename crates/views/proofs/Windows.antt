@@ -6,12 +6,12 @@ use mathlib.Core.List.{List, [], _∷_, _++_, append-assoc, append-nil}
 use Prim.Native.Nat.{ℕ, zero, suc, _+_, _-_, _*_, _≤_, _<_}
 use native.Mathlib.Nat.{suc-mul, zero-mul, zero-add, suc-add, add-comm}
 use native.Mathlib.Omega.{arith}
-use lib.ListN.{length, take, drop, getD, set, replicate, length-append, length-replicate, length-take, length-drop, length-set, take-append-drop}
-use lib.Seq.{take-at, drop-at, length-take-le, set-at, getD-at, drop-cons}
-use Rattle.scope.specs.Base.{part, replaced, one}
+use lib.ListN.{length, take, drop, replicate, length-append, length-replicate, take-append-drop}
+use lib.Seq.{take-at, drop-at, length-take-le}
+use Rattle.scope.specs.Base.{part, replaced}
 use Rattle.memory.proofs.Parts.{length-part}
-use Rattle.views.specs.Places.{samplesAt, gapsAt, laid, howMany, rowPlaces, rowsPlaces}
-use Rattle.views.proofs.Views.{samples-append, gaps-append, many-append, samples-many, samples-all, gaps-all, many-all}
+use Rattle.views.specs.Places.{samplesAt, gapsAt, howMany, rowPlaces, rowsPlaces}
+use Rattle.views.proofs.Views.{samples-append, gaps-append, many-append, samples-many, many-all}
 
 -- places `own` stand from place `from` on, where `past` samples stand before
 pub record Window (places : List Bool) (from : ℕ) (own : List Bool) (past : ℕ) : Type 0 where

@@ -23,7 +23,7 @@ use Rattle.geometry.specs.Sound.{Sound}
 use Rattle.geometry.proofs.Order.{Order, sum-upto, stretch-in}
 use Rattle.geometry.proofs.Places.{order, sizes-alike, correlated-three}
 use Rattle.planes.specs.Standing.{Planes, withGreen, coloured}
-use Rattle.memory.proofs.Parts.{put-keeps}
+use Rattle.lists.proofs.Parts.{put-keeps}
 use Rattle.memory.proofs.Sums.{plus-length}
 use Rattle.planes.specs.Adding.{addedRows}
 use Rattle.planes.proofs.Adding.{added-plain}

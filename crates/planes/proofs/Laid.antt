@@ -15,7 +15,7 @@ use lib.ListN.{length}
 use Rattle.scope.specs.Base as base
 use Rattle.scope.specs.Base.{part, replaced, sumBelow}
 use Rattle.geometry.proofs.Order.{Order, stretch-in}
-use Rattle.memory.proofs.Parts.{put-keeps}
+use Rattle.lists.proofs.Parts.{put-keeps}
 use Rattle.planes.proofs.Holds.{Holds, holds-more}
 
 as-they-are : (P : ℕ) (size : ℕ → ℕ) → Order P (λ p. p) size

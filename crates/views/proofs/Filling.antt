@@ -13,7 +13,7 @@ use mir.Val.{Fits}
 use lib.ListN.{length, take, drop, replicate, length-append, length-replicate, drop-of-length-le}
 use lib.Seq.{take-at, drop-at, drop-drop}
 use Rattle.scope.specs.Base.{part, replaced}
-use Rattle.memory.proofs.Parts.{length-part, put-keeps}
+use Rattle.lists.proofs.Parts.{length-part, put-keeps}
 use Rattle.views.specs.Places.{samplesAt, gapsAt, laid, howMany, rowsPlaces, Rowed}
 use Rattle.views.proofs.Views.{samples-many, samples-all, gaps-all, laid-is, laid-length, samples-laid, gaps-laid}
 use Rattle.views.proofs.Windows.{Window, window-room, window-put, window-keeps, rows-long, rows-many, row-window}

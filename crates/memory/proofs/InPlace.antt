@@ -6,12 +6,11 @@ use mathlib.Core.Path.{_≡_, refl, sym, ap, _∙_}
 use mathlib.Core.List.{List, [], _∷_, _++_, append-nil}
 use Prim.Native.Nat.{ℕ, zero, suc, _+_, _-_, _≤_, _<_}
 use native.Mathlib.Nat.{add-zero, add-suc}
-use native.Mathlib.Decide.{decLe}
 use native.Mathlib.Numerals.{add-one}
 use native.Mathlib.Omega.{arith}
 use borrow.Author.Needs.{needs}
 use lib.ListN.{length, getD, take, drop, set, length-append, length-set, take-append-drop}
-use lib.Seq.{set-at, take-at, getD-at, drop-cons, append-snoc, drop-length, take-all, take-append-le, take-suc, take-take, getD-take, getD-drop, getD-append-add}
+use lib.Seq.{set-at, take-at, getD-at, drop-cons, append-snoc, drop-length, take-all, take-append-le, take-suc, take-take, getD-take}
 use Rattle.scope.specs.Base.{Step, grown, rebuilt}
 use Rattle.memory.specs.Loop.{swept}
 
@@ -90,10 +89,6 @@ module _ (step : Step) (xs : List ℕ) where
       ∙ rw (grown-take (suc i) n h, grown-take i n (omega arith))
       (getD-at (grown step xs i) _ [] 0 i (grown-length step xs i))
 
-  -- as many are made as there were
-  pub rebuilt-length : length (rebuilt step xs) ≡ length xs
-  rebuilt-length = grown-length step xs (length xs)
-
   grows : (ys : List ℕ) → length ys ≡ length xs
       → ((i : ℕ) → i < length xs → getD ys i 0 ≡ step i (take i ys) (getD xs i 0))
       → (n : ℕ) → n ≤ length xs → take n ys ≡ grown step xs n
@@ -135,31 +130,10 @@ at-made step xs s i a j l =
     let h : j ≤ i = omega arith in
     cc (getD-take i s j 0 l, grown-at step xs j i l, take-take j i s h)
 
--- an element that is left as it was
-pub at-left : (step : Step) (xs s : List ℕ) (i : ℕ) → At step xs s i → (j : ℕ) → i ≤ j → getD s j 0 ≡ getD xs j 0
-at-left step xs s i a j l =
-    let e : j ≡ length (grown step xs i) + (j - i) = omega (arith, grown-length step xs i) in
-    let f : i + (j - i) ≡ j = omega arith in
-    cc (getD-append-add (grown step xs i) (drop i xs) (j - i) 0, getD-drop i xs (j - i) 0)
-
--- it ends at i, where a step from i on keeps what is there
-pub at-rest : (step : Step) (xs s : List ℕ) (i : ℕ) → At step xs s i
-    → ((j : ℕ) (p : List ℕ) (x : ℕ) → i ≤ j → step j p x ≡ x) → s ≡ rebuilt step xs
-at-rest step xs s i a same = rebuilt-only step xs s (a .same) (λ j h. go j (decLe i j))
-  where
-    go : (j : ℕ) → Dec (i ≤ j) → getD s j 0 ≡ step j (take j s) (getD xs j 0)
-    go j (yes l) = at-left step xs s i a j l ∙ sym (same j (take j s) (getD xs j 0) l)
-    go j (no l) = at-made step xs s i a j (omega arith)
-
 -- what bounds each step bounds each element made
 pub at-below : (step : Step) (m : ℕ) → ((i : ℕ) (p : List ℕ) (x : ℕ) → step i p x < m)
     → (xs s : List ℕ) (i : ℕ) → At step xs s i → (j : ℕ) → j < i → getD s j 0 < m
 at-below step m h xs s i a j l = rw (at-made step xs s i a j l) (h _ _ _)
-
--- and each element of the whole list
-pub rebuilt-below : (step : Step) (m : ℕ) → ((i : ℕ) (p : List ℕ) (x : ℕ) → step i p x < m)
-    → (xs : List ℕ) (j : ℕ) → j < length xs → getD (rebuilt step xs) j 0 < m
-rebuilt-below step m h xs j l = rw (grown-at step xs j (length xs) l) (h _ _ _)
 
 -- ---- `swept`: the loop over the places from i on as a function, so that a function that makes one stretch of a longer loop
 -- (a row of a slice) has an equation for its contract

@@ -12,7 +12,7 @@ use lib.Seq.{getD-take, drop-drop}
 use Rattle.scope.specs.Base.{grown, part, replaced}
 use Rattle.scope.specs.Prediction.{plus}
 use Rattle.memory.specs.Sum.{added}
-use Rattle.memory.proofs.Parts.{length-part, part-next}
+use Rattle.lists.proofs.Parts.{length-part, part-next}
 use Rattle.memory.proofs.InPlace.{At, at-from, at-step, grown-take, at-take}
 
 -- before the first turn

@@ -24,7 +24,7 @@ use Rattle.layout.specs.Placed.{Placed}
 use Rattle.layout.proofs.Slices.{named-here, named-other, named-all}
 use Rattle.layout.proofs.Going.{Going, going-start, going-last, going-done, going-placed, going-step, going-refused}
 use Rattle.scope.specs.Frame.{indexCheck}
-use Rattle.memory.proofs.Parts.{put-length}
+use Rattle.lists.proofs.Parts.{put-length}
 use Rattle.planes.specs.Standing.{Planes}
 use Rattle.planes.proofs.Holds.{Holds, holds-more}
 use Rattle.tables.specs.declared.Codes.{Codes}

@@ -14,7 +14,7 @@ use lib.ListN.{length, replicate, length-replicate, take-append-drop}
 use Rattle.scope.specs.Base.{part, replaced}
 use Rattle.scope.specs.Prediction as pred
 use Rattle.scope.specs.Prediction.{plus}
-use Rattle.memory.proofs.Parts.{length-part, part-before, part-after, put-keeps, put-more, part-add}
+use Rattle.lists.proofs.Parts.{length-part, part-before, part-after, put-keeps, put-more, part-add}
 use Rattle.memory.proofs.Sums.{plus-length, plus-append}
 use Rattle.views.specs.Places.{samplesAt, gapsAt, rowsPlaces}
 use Rattle.views.specs.declared.Stretch.{Stretch}

@@ -2,7 +2,7 @@
 -- planes of Rgb and Rgba with G added are the picture. Assumes nothing.
 use mathlib.Core.Path.{_≡_, refl, sym, ap, _∙_}
 use mathlib.Core.Bool.{Bool, true, false, cond}
-use mathlib.Core.List.{List, [], _∷_}
+use mathlib.Core.List.{List}
 use Prim.Native.Nat.{ℕ, zero, suc, _+_, _-_, _*_, _≤_, _<_}
 use native.Mathlib.Nat.{mul-comm, mul-le-mul}
 use native.Mathlib.Omega.{arith}
@@ -12,7 +12,7 @@ use mir.Syntax.{w64}
 use mir.Val.{Fits}
 use lib.ListN.{length, length-take, length-drop}
 use Rattle.scope.specs.Base as base
-use Rattle.scope.specs.Base.{part, replaced, sumBelow}
+use Rattle.scope.specs.Base.{part, sumBelow}
 use Rattle.scope.specs.Geometry as geo
 use Rattle.scope.specs.Geometry.{correlated, planeCount, planeWidth, planeHeight, planeSamples, allSamples, swapped, orderOf, planeStart}
 use Rattle.scope.specs.Prediction.{plus}
@@ -23,10 +23,9 @@ use Rattle.geometry.specs.Sound.{Sound}
 use Rattle.geometry.proofs.Order.{Order, sum-upto, stretch-in}
 use Rattle.geometry.proofs.Places.{order, sizes-alike, correlated-three}
 use Rattle.planes.specs.Standing.{Planes, withGreen, coloured}
-use Rattle.memory.proofs.Parts.{put-keeps}
+use Rattle.lists.proofs.Parts.{put-keeps}
 use Rattle.memory.proofs.Sums.{plus-length}
-use Rattle.views.specs.declared.Stretch.{Stretch}
-use Rattle.planes.specs.Adding.{addedRows, Apart}
+use Rattle.planes.specs.Adding.{addedRows}
 use Rattle.planes.proofs.Adding.{added-plain}
 use Rattle.planes.proofs.Holds.{Holds, holds-put, holds-all}
 
@@ -39,10 +38,6 @@ green-keeps d at n xs l h =
     put-keeps xs at n (plus d (part xs at n) (part xs 0 n)) k h
 
 -- ---- the planes of a correlated family: three of one size, whose rows stand one after another
-
--- rows of a plane: h of a width w, from `at` on, with no gaps
-abbrev pub rowsFrom : ℕ → ℕ → ℕ → Stretch
-rowsFrom at w h = record { at = at; width = w; pitch = w; rows = h }
 
 module _ (h w : ℕ) (lh : h ≤ 16384) (lw : w ≤ 16384) where
   most : h * w ≤ 268435456
@@ -73,26 +68,12 @@ module _ (g : Geometry) (r : Bool) (er : r ≡ correlated (g .family)) (t : r �
       let z : 3 + (planeCount g - 3) ≡ planeCount g = omega (arith, correlated-three (g .family) mixes) in
       rw e (omega (arith, three-sum, rw z at (sum-upto (planeSamples g) 3 (planeCount g - 3))))
 
-  -- B' and R' begin past the end of G, and lie in the buffer
-  pub blue-apart : (len : ℕ) → len ≡ allSamples g → Apart len (rowsFrom 0 w h) (rowsFrom (h * w) w h)
-  blue-apart len e = record {
-    as-wide = refl;
-    as-many = refl;
-    wide = omega arith;
-    wide-to = omega arith;
-    before = omega arith;
-    inside = omega (arith, three-in len e);
-  }
+  -- B' and R' lie in the buffer, and R' still does once B is made
+  pub two-in : (len : ℕ) → len ≡ allSamples g → h * w + h * w ≤ len
+  two-in len e = omega (arith, three-in len e)
 
-  pub red-apart : (len len′ : ℕ) → len′ ≡ len → len ≡ allSamples g → Apart len′ (rowsFrom 0 w h) (rowsFrom (h * w + h * w) w h)
-  red-apart len len′ k e = record {
-    as-wide = refl;
-    as-many = refl;
-    wide = omega arith;
-    wide-to = omega arith;
-    before = omega arith;
-    inside = omega (arith, three-in len e);
-  }
+  pub three-still-in : (len len′ : ℕ) → len′ ≡ len → len ≡ allSamples g → h * w + h * w + h * w ≤ len′
+  three-still-in len len′ k e = omega (arith, three-in len e)
 
   module _ (xs ys zs : List ℕ) (e : length xs ≡ allSamples g) (ey : ys ≡ addedRows (g .depth) 0 w (h * w) w w h xs) (ez : zs ≡ addedRows (g .depth) 0 w (h * w + h * w) w w h ys) where
     room : h * w + h * w + h * w ≤ length xs

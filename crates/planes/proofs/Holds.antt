@@ -3,7 +3,7 @@
 use mathlib.Core.Path.{_≡_, refl, sym, ap, _∙_}
 use mathlib.Core.Bool.{Bool, true, false, cond}
 use mathlib.Core.List.{List, [], _++_, append-nil}
-use Prim.Native.Nat.{ℕ, zero, suc, _+_, _-_, _≤_, _<_}
+use Prim.Native.Nat.{ℕ, zero, suc, _+_, _≤_, _<_}
 use native.Mathlib.Decide.{ℕ-discrete, decLe}
 use native.Mathlib.Nat.{add-zero}
 use native.Mathlib.Omega.{arith}
@@ -16,7 +16,7 @@ use Rattle.scope.specs.Base as base
 use Rattle.scope.specs.Frame as frm
 use Rattle.scope.specs.Frame.{planesUpTo}
 use Rattle.geometry.proofs.Order.{Order, sum-next, stretch-in}
-use Rattle.memory.proofs.Parts.{part-before, part-after, part-more, put-keeps}
+use Rattle.lists.proofs.Parts.{part-before, part-after, part-more, put-keeps}
 
 -- plane p holds xs p so far, so p samples long
 pub record Holds (P : ℕ) (σ size : ℕ → ℕ) (so : ℕ → ℕ) (xs : ℕ → List ℕ) (buf : List ℕ) : Type 0 where

@@ -4,7 +4,7 @@
 use mathlib.Core.Path.{_≡_, refl, sym, ap, _∙_}
 use mathlib.Core.Bool.{Bool, true, false, cond}
 use mathlib.Core.List.{List, [], _++_, append-nil}
-use Prim.Native.Nat.{ℕ, suc, _+_, _-_, _≤_, _<_}
+use Prim.Native.Nat.{ℕ, suc, _+_, _≤_, _<_}
 use native.Mathlib.Nat.{add-zero}
 use native.Mathlib.Numerals.{add-one}
 use native.Mathlib.Decide.{decLe, ℕ-discrete}
@@ -15,7 +15,7 @@ use lib.ListN.{length}
 use Rattle.scope.specs.Base as base
 use Rattle.scope.specs.Base.{part, replaced, sumBelow}
 use Rattle.geometry.proofs.Order.{Order, stretch-in}
-use Rattle.memory.proofs.Parts.{put-keeps}
+use Rattle.lists.proofs.Parts.{put-keeps}
 use Rattle.planes.proofs.Holds.{Holds, holds-more}
 
 as-they-are : (P : ℕ) (size : ℕ → ℕ) → Order P (λ p. p) size

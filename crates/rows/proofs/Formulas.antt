@@ -10,7 +10,7 @@ use native.Mathlib.Omega.{arith}
 use borrow.Author.Needs.{needs}
 use borrow.Author.Tests.{le-leb, lt-leb, eq-eqb, ne-eqb}
 use Rattle.scope.specs.Prediction.{gradient, clampMedian, t87Median, median, predictor}
-use Rattle.memory.proofs.Powers.{mod-of-wrapped}
+use Rattle.lists.proofs.Powers.{mod-of-wrapped}
 
 -- ---- the gradient
 

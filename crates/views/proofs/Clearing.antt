@@ -1,19 +1,15 @@
 -- The loop that clears the samples of rows and leaves the gaps. Assumes nothing.
-use mathlib.Core.Path.{_≡_, refl, sym, ap, _∙_}
-use mathlib.Core.List.{List, [], _∷_, _++_}
-use Prim.Native.Nat.{ℕ, zero, suc, _+_, _-_, _*_, _≤_, _<_}
-use native.Mathlib.Nat.{suc-mul, zero-mul, zero-add, suc-add}
+use mathlib.Core.Path.{_≡_, sym, ap, _∙_}
+use mathlib.Core.List.{List, _++_}
+use Prim.Native.Nat.{ℕ, _+_, _-_, _*_, _≤_, _<_}
+use native.Mathlib.Nat.{suc-mul, zero-mul}
 use native.Mathlib.Numerals.{add-one}
 use native.Mathlib.Omega.{arith}
 use borrow.Author.Needs.{needs}
 use borrow.Rule.Slice.PartMut.{putMid}
-use lib.ListN.{length, take, drop, replicate, length-replicate}
+use lib.ListN.{length, take, drop, replicate, length-replicate, replicate-append-replicate}
 use Rattle.views.specs.Places.{samplesAt, rowsPlaces, Rowed}
 use Rattle.views.proofs.Filling.{Fills, fills-start, fills-end, fills-gaps, row-fits, row-fits-2, row-end-fits, lent-in, lent-long, lent-back}
-
-zeros-more : (a b : ℕ) → _≡_ {A = List ℕ} (replicate (a + b) 0) (replicate a 0 ++ replicate b 0)
-zeros-more zero b = rw zero-add
-zeros-more (suc a) b = rw (suc-add a b) (ap (λ (z : List ℕ). 0 ∷ z) (zeros-more a b))
 
 -- before the first row
 pub clears-start : (w p h : ℕ) (s₀ : List ℕ) → Fills w p h s₀ s₀ (replicate (0 * w) 0) 0
@@ -23,7 +19,7 @@ clears-start w p h s₀ = rw zero-mul (fills-start w p h s₀)
 pub clears-step : (w p h : ℕ) (s₀ s ys : List ℕ) (r : ℕ) → Fills w p h s₀ s (replicate (r * w) 0) r → Rowed (length s₀) w p h → r < h → ys ≡ replicate (length (take (r * p + w - r * p) (drop (r * p) s))) 0 → Fills w p h s₀ (putMid (r * p) (r * p + w - r * p) s ys) (replicate ((r + 1) * w) 0) (r + 1)
 clears-step w p h s₀ s ys r f ok k e =
     let z : ys ≡ replicate w 0 = e ∙ ap (λ (n : ℕ). replicate n 0) (lent-long w p h s₀ s (replicate (r * w) 0) r f ok k) in
-    let m : replicate ((r + 1) * w) 0 ≡ replicate (r * w) 0 ++ ys = rw (add-one r, suc-mul r w, z) (zeros-more (r * w) w) in
+    let m : replicate ((r + 1) * w) 0 ≡ replicate (r * w) 0 ++ ys = rw (add-one r, suc-mul r w, z) (sym (replicate-append-replicate (r * w) w 0)) in
     rw m (lent-back w p h s₀ s (replicate (r * w) 0) r f ok k ys (ap length z ∙ length-replicate w 0))
 
 -- after the last row

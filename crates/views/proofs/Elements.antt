@@ -1,26 +1,17 @@
 -- One sample of a buffer: read and stored, it is read and stored in the samples too, and a store keeps the gaps. Assumes nothing.
 use mathlib.Core.Path.{_≡_, refl, sym, ap, _∙_}
-use mathlib.Core.Bool.{Bool, true, false}
-use mathlib.Core.List.{List, [], _∷_, _++_, append-assoc}
-use Prim.Native.Nat.{ℕ, zero, suc, _+_, _-_, _*_, _≤_, _<_}
-use native.Mathlib.Nat.{zero-add, suc-add, suc-mul, mul-le-mul-right}
+use mathlib.Core.Bool.{Bool, true}
+use mathlib.Core.List.{List, [], _∷_}
+use Prim.Native.Nat.{ℕ, _+_, _*_, _≤_, _<_}
+use native.Mathlib.Nat.{suc-mul, mul-le-mul-right}
 use native.Mathlib.Omega.{arith}
-use lib.ListN.{length, take, drop, getD, set, replicate, length-replicate, length-set, take-append-drop}
-use lib.Seq.{drop-cons, set-at, length-take-le, drop-drop, getD-take, getD-drop}
-use native.Mathlib.Numerals.{add-one}
-use Rattle.scope.specs.Base.{part, replaced, one}
-use Rattle.memory.proofs.Parts.{length-part}
+use lib.ListN.{length, drop, getD, set, replicate, length-replicate}
+use lib.Seq.{getD-take, getD-drop}
+use Rattle.scope.specs.Base.{part}
+use Rattle.lists.proofs.Parts.{length-part, set-put}
 use Rattle.views.specs.Places.{samplesAt, gapsAt, howMany, rowsPlaces}
 use Rattle.views.proofs.Views.{samples-many, samples-all, gaps-all, many-all}
-use Rattle.views.proofs.Windows.{Window, window-room, window-many, window-in, window-part, window-put, window-keeps, rows-long, rows-many, row-window, trues-window}
-
--- a store is a part of one element that is replaced
-set-put : (s : List ℕ) (i v : ℕ) → i < length s → replaced s i 1 (v ∷ []) ≡ set s i v
-set-put s i v h =
-    let e : s ≡ take i s ++ (getD s i 0 ∷ drop (suc i) s) = sym (take-append-drop i s) ∙ ap (λ (l : List ℕ). take i s ++ l) (drop-cons s i 0 h) in
-    let l : length (take i s) ≡ i = length-take-le i s (omega arith) in
-    let n : i + 1 ≡ suc i = add-one i in
-    rw (drop-drop 1 i s, n) (sym (ap (λ (z : List ℕ). set z i v) e ∙ set-at (take i s) (getD s i 0) (drop (suc i) s) v i l))
+use Rattle.views.proofs.Windows.{Window, window-room, window-many, window-in, window-part, window-put, window-keeps, rows-long, row-window, trues-window}
 
 module _ (places : List Bool) (i j : ℕ) (w : Window places i (true ∷ []) j) (s : List ℕ) (room : length places ≤ length s) where
   inside : i < length s

@@ -1,9 +1,9 @@
 -- Filling a buffer's samples front to back, window after window, whatever stood there: rows of a slice or plane (cleared, read raw or
 -- coded), and planes of the buffer. One law for every element, every way to make a window's samples, and both levels. Assumes nothing.
 use mathlib.Core.Path.{_≡_, refl, sym, ap, _∙_}
-use mathlib.Core.Bool.{Bool, true, false}
-use mathlib.Core.List.{List, [], _∷_, _++_, append-assoc, append-nil}
-use Prim.Native.Nat.{ℕ, zero, suc, _+_, _-_, _*_, _≤_, _<_}
+use mathlib.Core.Bool.{Bool, true}
+use mathlib.Core.List.{List, [], _++_, append-assoc, append-nil}
+use Prim.Native.Nat.{ℕ, _+_, _-_, _*_, _≤_, _<_}
 use native.Mathlib.Nat.{suc-mul, zero-mul, mul-le-mul-right, mul-le-mul-left}
 use native.Mathlib.Numerals.{add-one}
 use native.Mathlib.Omega.{arith}
@@ -13,9 +13,9 @@ use mir.Val.{Fits}
 use lib.ListN.{length, take, drop, replicate, length-append, length-replicate, drop-of-length-le}
 use lib.Seq.{take-at, drop-at, drop-drop}
 use Rattle.scope.specs.Base.{part, replaced}
-use Rattle.memory.proofs.Parts.{length-part, put-keeps}
+use Rattle.lists.proofs.Parts.{length-part, put-keeps}
 use Rattle.views.specs.Places.{samplesAt, gapsAt, laid, howMany, rowsPlaces, Rowed}
-use Rattle.views.proofs.Views.{samples-many, samples-all, gaps-all, many-all, laid-is, laid-length, samples-laid, gaps-laid}
+use Rattle.views.proofs.Views.{samples-many, samples-all, gaps-all, laid-is, laid-length, samples-laid, gaps-laid}
 use Rattle.views.proofs.Windows.{Window, window-room, window-put, window-keeps, rows-long, rows-many, row-window}
 
 -- ---- any windows, one after another

@@ -1,6 +1,6 @@
 -- The loop that copies a raw slice's bytes row by row; and packed samples resume at a bit position. Assumes nothing.
-use mathlib.Core.Path.{_≡_, refl, sym, ap, _∙_}
-use mathlib.Core.List.{List, [], _∷_, _++_}
+use mathlib.Core.Path.{_≡_, ap, _∙_}
+use mathlib.Core.List.{List, _∷_, _++_}
 use Prim.Native.Nat.{ℕ, zero, suc, _+_, _-_, _*_, _≤_, _<_, _^_}
 use native.Mathlib.Nat.{suc-mul, zero-mul, zero-add, suc-add, add-zero, mul-le-mul-right, mul-le-mul-left}
 use native.Mathlib.Numerals.{add-one}

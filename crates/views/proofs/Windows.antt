@@ -2,16 +2,16 @@
 -- replaced in the samples too, and the gaps stay if its own do. One law for rows, slices and planes, at any element. Assumes nothing.
 use mathlib.Core.Path.{_≡_, refl, sym, ap, _∙_}
 use mathlib.Core.Bool.{Bool, true, false}
-use mathlib.Core.List.{List, [], _∷_, _++_, append-assoc, append-nil}
+use mathlib.Core.List.{List, [], _++_, append-assoc, append-nil}
 use Prim.Native.Nat.{ℕ, zero, suc, _+_, _-_, _*_, _≤_, _<_}
 use native.Mathlib.Nat.{suc-mul, zero-mul, zero-add, suc-add, add-comm}
 use native.Mathlib.Omega.{arith}
-use lib.ListN.{length, take, drop, getD, set, replicate, length-append, length-replicate, length-take, length-drop, length-set, take-append-drop}
-use lib.Seq.{take-at, drop-at, length-take-le, set-at, getD-at, drop-cons}
-use Rattle.scope.specs.Base.{part, replaced, one}
-use Rattle.memory.proofs.Parts.{length-part}
-use Rattle.views.specs.Places.{samplesAt, gapsAt, laid, howMany, rowPlaces, rowsPlaces}
-use Rattle.views.proofs.Views.{samples-append, gaps-append, many-append, samples-many, samples-all, gaps-all, many-all}
+use lib.ListN.{length, take, drop, replicate, length-append, length-replicate, take-append-drop, replicate-append-replicate}
+use lib.Seq.{take-at, drop-at, length-take-le}
+use Rattle.scope.specs.Base.{part, replaced}
+use Rattle.lists.proofs.Parts.{length-part}
+use Rattle.views.specs.Places.{samplesAt, gapsAt, howMany, rowPlaces, rowsPlaces}
+use Rattle.views.proofs.Views.{samples-append, gaps-append, many-append, samples-many, many-all}
 
 -- places `own` stand from place `from` on, where `past` samples stand before
 pub record Window (places : List Bool) (from : ℕ) (own : List Bool) (past : ℕ) : Type 0 where
@@ -121,17 +121,13 @@ rows-append w p zero b = rw zero-add
 rows-append w p (suc a) b = rw (suc-add a b, rows-append w p a b) (sym (append-assoc (rowPlaces w p) (rowsPlaces w p a) (rowsPlaces w p b)))
 
 -- with no gaps every place is a sample's
-replicate-append : (a b : ℕ) → _≡_ {A = List Bool} (replicate (a + b) true) (replicate a true ++ replicate b true)
-replicate-append zero b = rw zero-add
-replicate-append (suc a) b = rw (suc-add a b) (ap (λ (z : List Bool). true ∷ z) (replicate-append a b))
-
 pub rows-all : (w h : ℕ) → rowsPlaces w w h ≡ replicate (h * w) true
 unfolding rowsPlaces
 rows-all w zero = rw zero-mul
 rows-all w (suc h) =
     let e : w - w ≡ 0 = omega arith in
     rw (e, append-nil (replicate w true), rows-all w h, suc-mul h w)
-    (rw (add-comm (h * w) w) (sym (replicate-append w (h * w))))
+    (rw (add-comm (h * w) w) (replicate-append-replicate w (h * w) true))
 
 -- n places of samples alone, from place a on
 pub trues-window : (len a n : ℕ) → a + n ≤ len → Window (replicate len true) a (replicate n true) a
@@ -140,7 +136,7 @@ trues-window len a n h =
     record {
       before = replicate a true;
       after = replicate (len - (a + n)) true;
-      is = ap (λ (k : ℕ). replicate k true) e ∙ replicate-append a (n + (len - (a + n))) ∙ ap (λ (z : List Bool). replicate a true ++ z) (replicate-append n (len - (a + n)));
+      is = ap (λ (k : ℕ). replicate k true) e ∙ sym (replicate-append-replicate a (n + (len - (a + n))) true) ∙ ap (λ (z : List Bool). replicate a true ++ z) (sym (replicate-append-replicate n (len - (a + n)) true));
       long = length-replicate a true;
       many = many-all a;
     }

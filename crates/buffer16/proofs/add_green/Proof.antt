@@ -1,6 +1,6 @@
 -- `buffer16::add_green` meets its contract: B and R are B'+G and R'+G modulo 2^depth (document 01). Assumes nothing.
 use borrow.Author.Needs.{needs}
-use Rattle.planes.proofs.Colours.{blue-fits, red-fits, blue-apart, red-apart, coloured-both, coloured-none, depth-most}
+use Rattle.planes.proofs.Colours.{blue-fits, red-fits, two-in, three-still-in, coloured-both, coloured-none, depth-most}
 use Rattle.buffer16.proofs.add_green.Statement.{statement}
 use Rattle.buffer16.proofs.add_green.Tie as tie
 
@@ -20,10 +20,10 @@ add-third : tie.Need-add-third
 add-third c = search red-fits
 
 add-rows-requires : tie.Need-add-rows-requires
-add-rows-requires c κs = (search blue-apart, search (depth-most, needs))
+add-rows-requires c κs = (search (two-in, needs), search (depth-most, needs))
 
 add-rows-requires-2 : tie.Need-add-rows-requires-2
-add-rows-requires-2 c κs = (search red-apart, search (depth-most, needs))
+add-rows-requires-2 c κs = (search (three-still-in, needs), search (depth-most, needs))
 
 same-length : tie.Need-same-length
 same-length c = search needs

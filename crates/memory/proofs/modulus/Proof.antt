@@ -1,5 +1,5 @@
 -- `memory::modulus` meets its contract. Assumes nothing.
-use Rattle.memory.proofs.Powers.{powers}
+use Rattle.lists.proofs.Powers.{powers}
 use Rattle.memory.proofs.modulus.Statement.{statement}
 use Rattle.memory.proofs.modulus.Tie as tie
 

@@ -14,7 +14,7 @@ use Rattle.scope.specs.Base.{part}
 use Rattle.scope.specs.Refusals as rfs
 use Rattle.scope.specs.Refusals.{refuseIf, _andThen_, inOrder}
 use Rattle.scope.specs.Geometry as geo
-use Rattle.scope.specs.Geometry.{correlated, planeCount, sliceCount, planeWidth, rowsAt, allElements, lengthsOf}
+use Rattle.scope.specs.Geometry.{correlated, planeCount, sliceCount, planeWidth, rowsAt, allSamples, allElements, lengthsOf}
 use Rattle.scope.specs.Layout as lay
 use Rattle.scope.specs.Layout.{planeIndex, placeInPlane, payloadOf, samplesIn, sliceAt}
 use Rattle.scope.specs.Words.{longest, shares, shortest, need, wordAt}
@@ -45,7 +45,8 @@ use Rattle.tables.specs.declared.Codes.{Codes}
 use Rattle.tables.specs.Codes.{codesOf}
 use Rattle.tables.specs.Tables.{planeNeed, Tables}
 use Rattle.tables.proofs.Told.{answer-is, need-is, plane-short, plane-full, plane-passed, from-is, longest-is, shortest-is, stretch-long, stretch-room}
-use Rattle.planes.proofs.Colours.{picture-same}
+use Rattle.planes.specs.Standing.{Planes, coloured}
+use Rattle.planes.proofs.Colours.{planes-same, picture-is}
 use Rattle.scope.specs.declared.Found.{Found}
 use Rattle.checks.proofs.Framed.{framed-is, order-same, frame-order, frame-lengths, frame-room, frame-slices, room-in}
 use Rattle.picture.specs.Steps as stp
@@ -104,10 +105,35 @@ lengths-most g lengths p = omega (arith, length-take (2 ^ g .depth) (drop (p * 2
 
 -- so bytes hold every symbol at depth 8, and 16 bits at any
 pub symbols-8 : (g : Geometry) → g .depth ≡ 8 → 2 ^ g .depth ≤ 2 ^ 8
-symbols-8 g d = pow-mono (omega (arith, d))
+symbols-8 g d = pow-mono {j = 8} (omega (arith, d))
 
 pub symbols-16 : (g : Geometry) → Sound g → 2 ^ g .depth ≤ 2 ^ 16
-symbols-16 g ok = pow-mono (omega (arith, ok .deep .1))
+symbols-16 g ok = pow-mono {j = 16} (omega (arith, ok .deep .1))
+
+-- ---- the picture
+
+buffer-same : (t : Bool) (d : ℕ) (f h : ℕ → List ℕ) → ((p : ℕ) → f p ≡ h p) → (b : ℕ) → bufferPlane t d f b ≡ bufferPlane t d h b
+unfolding frm.bufferPlane
+buffer-same false d f h e b = e b
+buffer-same true d f h e zero = e 1
+buffer-same true d f h e (suc zero) = rw (e 0, e 1)
+buffer-same true d f h e (suc (suc zero)) = rw (e 2, e 1)
+buffer-same true d f h e (suc (suc (suc b))) = e (suc (suc (suc b)))
+
+-- planes that stand in their stretches, coloured, are their picture
+pub read-picture : (g : Geometry) (wire : ℕ → List ℕ) (a : Answer) (buf buf′ : List ℕ) → a ≡ Done → (a ≡ Done → Planes g wire buf) → buf′ ≡ coloured g buf → buf′ ≡ pictureBy g wire
+unfolding stp.pictureBy
+read-picture g wire a buf buf′ d pl e = picture-is g wire buf buf′ (pl d) e
+
+pub read-long : (g : Geometry) (wire : ℕ → List ℕ) (a : Answer) (buf : List ℕ) → a ≡ Done → (a ≡ Done → Planes g wire buf) → length buf ≡ allSamples g
+read-long g wire a buf d pl = pl d .whole
+
+-- a refusal is no success
+pub no-planes : (n : ℕ) (q : Place) (g : Geometry) (wire : ℕ → List ℕ) (buf : List ℕ) → Refused n q ≡ Done → Planes g wire buf
+no-planes n q g wire buf e = record { each = λ p l. cc; whole = cc }
+
+pub no-list : (n : ℕ) (q : Place) (xs ys : List ℕ) → Refused n q ≡ Done → xs ≡ ys
+no-list n q xs ys e = cc
 
 -- ---- what the checks leave
 
@@ -155,7 +181,7 @@ module _ (frame : List ℕ) (g : Geometry) (lengths : List ℕ) (c : Codes) (is 
       indices = frame-order frame g lengths (roomCheck g lengths w) passed;
       slices = λ s l. passed-in frame g s (prefix-in frame g lengths s (slice-passed s l)) (slice-in frame g lengths s (slice-passed s l)) (raw-bits frame g lengths s (slice-passed s l)) (samples-most-in frame g s ok);
       starts = λ p l. omega (arith, stretch-long g lengths c is run-codes p l);
-      ends = λ p l. omega (arith, stretch-room g lengths c is run-codes p l, tb .room);
+      ends = λ p l. stretch-room g lengths c is run-codes p l (length workspace) (tb .room);
       readable = λ p payload n l most. readable-own g lengths workspace c is run-codes tb p l limit payload n (omega (arith, lengths-most g lengths p, few)) most;
     }
 
@@ -189,4 +215,4 @@ module _ (frame : List ℕ) (g : Geometry) (lengths : List ℕ) (c : Codes) (is 
         -- and its planes, coloured, are the picture
         pub run-picture : (buf : List ℕ) → b ≡ Done → (b ≡ Done → buf ≡ pictureBy g (planeOf (samplesFor (tableLook workspace c) frame g) frame g)) → buf ≡ pictureOf frame g lengths
         unfolding frm.pictureOf stp.pictureBy
-        run-picture buf db pl = pl db ∙ picture-same g _ _ (λ p l. planes-are p)
+        run-picture buf db pl = pl db ∙ planes-same _ _ (planeCount g) (λ q l. buffer-same (correlated (g .family)) (g .depth) _ _ planes-are q)

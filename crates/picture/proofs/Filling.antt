@@ -87,6 +87,12 @@ module _ (samples : ℕ → List ℕ) (frame : List ℕ) (g : Geometry) where
       filled-more : Filled samples frame g (s + 1) buf′
       filled-more = record { holds = rw add-one more; long = el ∙ w .long }
 
+-- a slice's rows, by its record and by its plane and place
+rows-same : (g : Geometry) (a : SliceAt) (p k : ℕ) (xs buf : List ℕ) → a .plane ≡ p → a .first ≡ firstRow g p k → a .rows ≡ rowsAt g p k → a .width ≡ planeWidth g p
+    → withRows g a xs buf ≡ replaced buf (rowStart g p (firstRow g p k)) (rowsAt g p k * planeWidth g p) xs
+unfolding stp.withRows
+rows-same g a p k xs buf ep ef er ew = rw (ep, ef, er, ew)
+
 -- ---- the loop over the slices
 
 -- what the loop knows before slice s
@@ -118,11 +124,23 @@ module _ (look : Look) (frame : List ℕ) (g : Geometry) (t : ℕ) where
       -- it is read
       pub reading-step : Sound g → (buf′ : List ℕ) → r ≡ Done → (r ≡ Done → buf′ ≡ withRows g a (samplesFor look frame g (a .number)) buf) → length buf′ ≡ length buf
           → Reading look frame g t (set seen p (getD seen p 0 + 1)) (s + 1) buf′
-      unfolding stp.withRows
+      unfolding lay.placeInPlane
       reading-step ok buf′ ed eb el =
-          let pl : Placed frame g s p (getD seen p 0) = going-placed (readAt look frame g) frame g t seen s (w .going) p ls ei in
-          let k : getD seen p 0 ≡ placeInPlane frame g s = unfold lay.placeInPlane in (rw ei at (pl .place)) in
           record {
             going = going-step (readAt look frame g) frame g t seen s (w .going) p ls ei r own ed;
-            filled = filled-more (samplesFor look frame g) frame g s buf (w .filled) ok p (getD seen p 0) pl buf′ (eb ed ∙ rw (at-number frame g s a is, at-plane frame g s a is, at-first frame g s a is, at-rows frame g s a is, at-width frame g s a is, k, ei)) el;
+            filled = filled-more (samplesFor look frame g) frame g s buf (w .filled) ok p (getD seen p 0) pl buf′ there el;
           }
+        where
+          pl : Placed frame g s p (getD seen p 0)
+          pl = going-placed (readAt look frame g) frame g t seen s (w .going) p ls ei
+
+          place-is : getD seen p 0 ≡ placeInPlane frame g s
+          place-is = pl .place ∙ ap (λ (q : ℕ). namedBefore frame g q s) ei
+
+          there : buf′ ≡ replaced buf (rowStart g p (firstRow g p (getD seen p 0))) (rowsAt g p (getD seen p 0) * planeWidth g p) (samplesFor look frame g s)
+          there =
+              eb ed ∙ ap (λ (n : ℕ). withRows g a (samplesFor look frame g n) buf) (at-number frame g s a is)
+              ∙ rows-same g a p (getD seen p 0) (samplesFor look frame g s) buf (at-plane frame g s a is ∙ sym ei)
+              (at-first frame g s a is ∙ sym (ap (firstRow g p) place-is ∙ ap (λ (q : ℕ). firstRow g q (placeInPlane frame g s)) ei))
+              (at-rows frame g s a is ∙ sym (ap (rowsAt g p) place-is ∙ ap (λ (q : ℕ). rowsAt g q (placeInPlane frame g s)) ei))
+              (at-width frame g s a is ∙ sym (ap (planeWidth g) ei))

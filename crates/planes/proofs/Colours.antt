@@ -106,7 +106,7 @@ coloured-none g r xs e t = rw (← e, t)
 
 -- ---- the picture
 
-planes-same : (f h : ℕ → List ℕ) (n : ℕ) → ((b : ℕ) → b < n → f b ≡ h b) → planesUpTo f n ≡ planesUpTo h n
+pub planes-same : (f h : ℕ → List ℕ) (n : ℕ) → ((b : ℕ) → b < n → f b ≡ h b) → planesUpTo f n ≡ planesUpTo h n
 unfolding frm.planesUpTo
 planes-same f h zero e = refl
 planes-same f h (suc n) e = rw (planes-same f h n (λ b l. e b (omega arith)), e n (omega arith))
@@ -181,6 +181,6 @@ module _ (g : Geometry) (wire : ℕ → List ℕ) (buf : List ℕ) (pl : Planes 
   coloured-is false k = plain k
 
 -- planes that stand in their stretches, coloured, are the picture
-pub picture-is : (frame : List ℕ) (g : Geometry) (lengths buf buf′ : List ℕ) → Planes g (wirePlane frame g lengths) buf → buf′ ≡ coloured g buf → buf′ ≡ pictureOf frame g lengths
-unfolding coloured frm.pictureOf
-picture-is frame g lengths buf buf′ pl e = e ∙ coloured-is g (wirePlane frame g lengths) buf pl (correlated (g .family)) refl
+pub picture-is : (g : Geometry) (wire : ℕ → List ℕ) (buf buf′ : List ℕ) → Planes g wire buf → buf′ ≡ coloured g buf → buf′ ≡ planesUpTo (bufferPlane (correlated (g .family)) (g .depth) wire) (planeCount g)
+unfolding coloured
+picture-is g wire buf buf′ pl e = e ∙ coloured-is g wire buf pl (correlated (g .family)) refl

@@ -6,6 +6,8 @@ read or stored, its place times two: those lines are substitutions too.
 
 twins.py check          says which files differ from what the substitutions give (exit 1 if any does)
 twins.py write NAME8    writes the twin of NAME8
+
+A \\n in a substitution is a new line: an element of 16 bits has one need more, that twice its place fits 64 bits.
 """
 import pathlib
 import sys
@@ -23,10 +25,15 @@ def pairs():
     return found
 
 
+def files(base):
+    """Every file of a crate but its must-fail edits: a telling edit need not stand at both widths."""
+    return [p for p in base.rglob("*") if p.is_file() and p.parent.name != "must-fail"]
+
+
 def made(narrow, substitutions):
     base = ROOT / "crates" / narrow
     texts = {}
-    for path in sorted(p for p in base.rglob("*") if p.is_file()):
+    for path in sorted(files(base)):
         name, text = str(path.relative_to(base)), path.read_text()
         for old, new in substitutions:
             name, text = name.replace(old, new), text.replace(old, new)
@@ -44,7 +51,7 @@ def main():
                 (base / name).parent.mkdir(parents=True, exist_ok=True)
                 (base / name).write_text(text)
         elif sys.argv[1] == "check":
-            there = {str(p.relative_to(base)): p.read_text() for p in base.rglob("*") if p.is_file()}
+            there = {str(p.relative_to(base)): p.read_text() for p in files(base)}
             for name in sorted(set(there) | set(texts)):
                 if there.get(name) != texts.get(name):
                     print(f"{wide}/{name} is not {narrow}'s text")

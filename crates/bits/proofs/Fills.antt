@@ -6,10 +6,12 @@ use native.Mathlib.Numerals.{add-one}
 use native.Mathlib.Omega.{arith}
 use mathlib.Core.List.{List}
 use borrow.Author.Needs.{needs}
-use lib.ListN.{length, take, drop, getD, set, length-set, length-take, length-drop}
+use lib.ListN.{length, take, drop, getD, set, length-set}
 use lib.Seq.{take-suc, take-suc-set, take-all, getD-take, getD-drop}
-use Rattle.scope.specs.Bits.{window, packedFrom, rawSamples}
-use Rattle.bits.proofs.Windows.{packed-length, packed-at, raw-bytes}
+use Rattle.scope.specs.Bits.{window, packedFrom}
+use Rattle.bits.specs.Raw.{rawFrom, RawIn}
+use Rattle.bits.proofs.Windows.{packed-length, packed-at}
+use Rattle.bits.proofs.Raw.{raw-bytes, raw-inside, raw-length}
 
 -- s holds the first i elements of ys, and has room for all
 pub record Fills (ys s : List ℕ) (i : ℕ) : Type 0 where
@@ -41,16 +43,16 @@ module _ (ys : List ℕ) where
 
 -- ---- bytes as they stand
 
-module _ (src : List ℕ) (from : ℕ) (s₀ : List ℕ) (h : from + length s₀ ≤ length src) where
+module _ (depth : ℕ) (payload : List ℕ) (first : ℕ) (s₀ : List ℕ) (d : depth ≡ 8) where
   -- before the first byte
-  pub copy-start : Fills (rawSamples 8 (drop from src) (length s₀)) s₀ 0
-  copy-start = fills-start _ s₀ (rw raw-bytes (simp (length-take, length-drop) (omega arith)))
+  pub copy-start : RawIn depth payload first (length s₀) → Fills (rawFrom depth payload first (length s₀)) s₀ 0
+  copy-start r = fills-start _ s₀ (sym (raw-length depth payload first (length s₀) r))
 
   -- a byte copied
-  pub copy-step : (s : List ℕ) (i v : ℕ) → Fills (rawSamples 8 (drop from src) (length s₀)) s i → length s ≡ length s₀ → i < length s → v ≡ getD src (from + i) 0 → Fills (rawSamples 8 (drop from src) (length s₀)) (set s i v) (i + 1)
-  copy-step s i v d k l e =
+  pub copy-step : (s : List ℕ) (i v : ℕ) → Fills (rawFrom depth payload first (length s₀)) s i → length s ≡ length s₀ → i < length s → v ≡ getD payload (first + i) 0 → Fills (rawFrom depth payload first (length s₀)) (set s i v) (i + 1)
+  copy-step s i v f k l e =
       let m : i < length s₀ = omega arith in
-      fills-step _ s i d v l (e ∙ sym (rw raw-bytes (getD-take (length s₀) (drop from src) i 0 m ∙ getD-drop from src i 0)))
+      fills-step _ s i f v l (e ∙ sym (rw (raw-bytes depth payload first (length s₀) d) (getD-take (length s₀) (drop first payload) i 0 m ∙ getD-drop first payload i 0)))
 
 -- ---- packed samples
 
@@ -69,4 +71,4 @@ module _ (depth : ℕ) (payload : List ℕ) (at : ℕ) (s₀ : List ℕ) where
 pub next-sample : (at i p depth : ℕ) → p ≡ at + i * depth → p + depth ≡ at + (i + 1) * depth
 next-sample at i p depth e = omega arith
 
-pub ruleset fills = (fills-end, copy-start, copy-step, unpack-start, unpack-step, next-sample, needs)
+pub ruleset fills = (fills-end, raw-inside, copy-start, copy-step, unpack-start, unpack-step, next-sample, needs)

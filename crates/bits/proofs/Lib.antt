@@ -1,3 +1,4 @@
 pub mod Windows
+pub mod Raw
 pub mod Fills
 pub mod Once

@@ -8,8 +8,10 @@ use denote.Triple.Clauses.{AtExit}
 use denote.Ref.{now}
 use Rattle.bits.proofs.peek as peek
 use Rattle.bits.proofs.peek.Reads as peek-reads
-use Rattle.bits.proofs.copy_bytes as copy-bytes
-use Rattle.bits.proofs.copy_bytes.Reads as copy-bytes-reads
+use Rattle.bits.proofs.raw_u8 as raw-u8
+use Rattle.bits.proofs.raw_u8.Reads as raw-u8-reads
+use Rattle.bits.proofs.raw_u16 as raw-u16
+use Rattle.bits.proofs.raw_u16.Reads as raw-u16-reads
 use Rattle.bits.proofs.unpack_from as unpack-from
 use Rattle.bits.proofs.unpack_from.Reads as unpack-from-reads
 
@@ -17,10 +19,14 @@ pub peek-once : (κs : Lfts 1) (a : ArgsD peek.signature κs) (r₁ r₂ : ResD 
     → peek-reads.Post κs a r₁ s₁ → peek-reads.Post κs a r₂ s₂ → r₁ ≡ r₂
 peek-once κs a r₁ r₂ s₁ s₂ p q = p ∙ sym q
 
--- of a copy and of an unpacking the outcome is what the lent buffer then holds
-pub copy-bytes-once : (κs : Lfts 2) (a : ArgsD copy-bytes.signature κs) (r₁ r₂ : ResD copy-bytes.signature κs) (s₁ s₂ : AtExit copy-bytes.ended κs)
-    → copy-bytes-reads.Post κs a r₁ s₁ → copy-bytes-reads.Post κs a r₂ s₂ → now (s₁ .1 .1 .0) ≡ now (s₂ .1 .1 .0)
-copy-bytes-once κs a r₁ r₂ s₁ s₂ p q = p ∙ sym q
+-- of raw samples the outcome is what the lent buffer then holds
+pub raw-u8-once : (κs : Lfts 2) (a : ArgsD raw-u8.signature κs) (r₁ r₂ : ResD raw-u8.signature κs) (s₁ s₂ : AtExit raw-u8.ended κs)
+    → raw-u8-reads.Post κs a r₁ s₁ → raw-u8-reads.Post κs a r₂ s₂ → now (s₁ .1 .1 .1 .0) ≡ now (s₂ .1 .1 .1 .0)
+raw-u8-once κs a r₁ r₂ s₁ s₂ p q = p ∙ sym q
+
+pub raw-u16-once : (κs : Lfts 2) (a : ArgsD raw-u16.signature κs) (r₁ r₂ : ResD raw-u16.signature κs) (s₁ s₂ : AtExit raw-u16.ended κs)
+    → raw-u16-reads.Post κs a r₁ s₁ → raw-u16-reads.Post κs a r₂ s₂ → now (s₁ .1 .1 .1 .0) ≡ now (s₂ .1 .1 .1 .0)
+raw-u16-once κs a r₁ r₂ s₁ s₂ p q = p ∙ sym q
 
 pub unpack-from-once : (κs : Lfts 2) (a : ArgsD unpack-from.signature κs) (r₁ r₂ : ResD unpack-from.signature κs) (s₁ s₂ : AtExit unpack-from.ended κs)
     → unpack-from-reads.Post κs a r₁ s₁ → unpack-from-reads.Post κs a r₂ s₂ → now (s₁ .1 .1 .1 .0) ≡ now (s₂ .1 .1 .1 .0)

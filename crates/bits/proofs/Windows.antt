@@ -6,15 +6,14 @@ use native.Mathlib.Nat.{add-suc, add-zero, mul-assoc, mul-one, zero-div, pow-suc
 use native.Mathlib.Numerals.{add-one}
 use native.Mathlib.Omega.{arith}
 use mathlib.Core.List.{List}
-use borrow.Author.Tests.{ne-eqb}
 use borrow.Author.Needs.{needs}
 use mir.Syntax.{w16}
 use mir.Val.{Fits}
-use lib.ListN.{length, take, getD, List·getD-eq-default}
+use lib.ListN.{length, getD, List·getD-eq-default}
 use lib.Pow.{pow-mono}
 use lib.Arith.{digits-mod}
 use Rattle.scope.specs.Bits as bits
-use Rattle.scope.specs.Bits.{bitAt, window, packedFrom, rawSamples}
+use Rattle.scope.specs.Bits.{bitAt, window, packedFrom}
 
 -- ---- windows
 
@@ -154,15 +153,5 @@ packed-at depth payload at (suc n) (suc i) h =
 -- every sample is below 2^depth
 pub packed-below : (depth : ℕ) (payload : List ℕ) (at n i : ℕ) → i < n → getD (packedFrom depth payload at n) i 0 < 2 ^ depth
 packed-below depth payload at n i h = rw (packed-at depth payload at n i h) (window-small payload (at + i * depth) depth)
-
--- samples deeper than 8 are packed
-pub raw-deep : (depth : ℕ) (payload : List ℕ) (n : ℕ) → (depth ≡ 8 → ⊥) → rawSamples depth payload n ≡ packedFrom depth payload 0 n
-unfolding bits.rawSamples
-raw-deep depth payload n h = rw (ne-eqb depth 8 h)
-
--- at depth 8 they are the bytes themselves
-pub raw-bytes : (payload : List ℕ) (n : ℕ) → rawSamples 8 payload n ≡ take n payload
-unfolding bits.rawSamples
-raw-bytes payload n = refl
 
 pub ruleset windows = (bit-inside, bit-outside, read-start, read-step, read-fits, read-end, sample-fits, needs)

@@ -2,8 +2,9 @@
 // slice, which is one byte a sample at depth 8 and packed at depth bits above that.
 ghost use mathlib.Core.Path.{_≡_};
 ghost use Prim.Native.Nat.{_+_, _*_, _<_, _≤_, _^_};
-ghost use lib.ListN.{length, drop};
-ghost use Rattle.scope.specs.Bits.{bitAt, window, packedFrom, rawSamples};
+ghost use lib.ListN.{length};
+ghost use Rattle.scope.specs.Bits.{bitAt, window, packedFrom};
+ghost use Rattle.bits.specs.Raw.{rawFrom, RawIn};
 
 // A cast of an element asks that the element fits; a call asks only for the index.
 fn wide(x: u8) -> u32
@@ -42,14 +43,16 @@ pub fn peek(payload: &[u8], at: usize, k: usize) -> u32
     w
 }
 
-// The samples of a raw slice of depth 8, whose first byte stands at `from`.
-pub fn copy_bytes(src: &[u8], from: usize, out: &mut [u8])
-    requires { ⌜ from + length (now out) ≤ length (now src) ⌝ }
-    ensures { λ _. ⌜ now (out .exit) ≡ rawSamples 8 (drop from (now (src .entry))) (length (now (out .entry))) ⌝ }
+// The raw samples of a payload from sample number `first` on, at depth 8: a byte each. `depth` is not read; it stands here so that both
+// widths are called alike.
+pub fn raw_u8(payload: &[u8], first: usize, depth: usize, out: &mut [u8])
+    requires { ⌜ depth ≡ 8 ⌝ }
+    requires { ⌜ RawIn depth (now payload) first (length (now out)) ⌝ }
+    ensures { λ _. ⌜ now (out .exit) ≡ rawFrom depth (now (payload .entry)) first (length (now (out .entry))) ⌝ }
 {
     let mut i = 0;
     while i < out.len() {
-        out[i] = src[from + i];
+        out[i] = payload[first + i];
         i += 1;
     }
 }
@@ -74,4 +77,13 @@ pub fn unpack_from(payload: &[u8], at: usize, depth: usize, out: &mut [u16])
         p += depth;
         i += 1;
     }
+}
+
+// The raw samples of a payload from sample number `first` on, at a depth above 8: packed.
+pub fn raw_u16(payload: &[u8], first: usize, depth: usize, out: &mut [u16])
+    requires { ⌜ (8 < depth) × (depth ≤ 16) ⌝ }
+    requires { ⌜ RawIn depth (now payload) first (length (now out)) ⌝ }
+    ensures { λ _. ⌜ now (out .exit) ≡ rawFrom depth (now (payload .entry)) first (length (now (out .entry))) ⌝ }
+{
+    unpack_from(payload, first * depth, depth, out);
 }

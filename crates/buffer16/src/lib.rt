@@ -73,8 +73,8 @@ pub fn add_green(g: Geometry, planes: &mut [u16])
 {
     let f = g.family;
     if geometry::is_correlated(f) {
-        let w = geometry::plane_width(g, 0);
-        let h = geometry::plane_height(g, 0);
+        let w = sides::plane_width(g, 0);
+        let h = sides::plane_height(g, 0);
         let second = h * w;
         let third = second + second;
         let green = Stretch {

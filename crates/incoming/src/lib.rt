@@ -1,5 +1,4 @@
 // Document 01, "Refusal numbers", 1 to 4: what is lent, judged before anything else is looked at. Every number is allowed.
-use geometry::all_samples;
 use geometry::is_subsampled;
 use geometry::plane_count;
 use geometry::symbol_count;
@@ -7,6 +6,7 @@ use scope::Answer;
 use scope::Family;
 use scope::Geometry;
 use scope::Place;
+use stretches::all_elements;
 ghost use mathlib.Core.Path.{_≡_};
 ghost use Prim.Native.Nat.{_%_, _≤_};
 ghost use lib.Dec.{eqb};
@@ -114,7 +114,7 @@ fn check_sizes(g: Geometry, lengths: usize, planes: usize) -> Answer
     if lengths != p * n {
         return Answer::Refused(4, Place::Nothing);
     }
-    if planes != all_samples(g) {
+    if planes != all_elements(g) {
         return Answer::Refused(4, Place::Nothing);
     }
     Answer::Done

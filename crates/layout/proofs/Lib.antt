@@ -1,4 +1,4 @@
 pub mod Slices
 pub mod Going
-pub mod Checks
+pub mod Readers
 pub mod Once

@@ -1,13 +1,10 @@
--- Document 01, "Layout": a slice's plane and place, and refusals 5 to 8 together. Assumes nothing.
+-- Document 01, "Layout": a slice's plane and place. Assumes nothing.
 use mathlib.Core.Path.{_≡_}
 use Prim.Native.Nat.{ℕ, _<_}
 use mathlib.Core.List.{List}
-use Rattle.scope.specs.Refusals.{_andThen_, inOrder}
-use Rattle.scope.specs.Geometry.{planeCount, slicesPerPlane, sliceCount}
+use Rattle.scope.specs.Geometry.{planeCount, slicesPerPlane}
 use Rattle.scope.specs.Layout.{planeIndex, namedBefore}
-use Rattle.scope.specs.Frame.{preambleChecks, indexCheck}
 use Rattle.scope.specs.declared.Geometry.{Geometry}
-use Rattle.scope.specs.declared.Answer.{Answer}
 
 -- slice s is place k of plane p
 pub record Placed (frame : List ℕ) (g : Geometry) (s p k : ℕ) : Type 0 where
@@ -15,9 +12,3 @@ pub record Placed (frame : List ℕ) (g : Geometry) (s p k : ℕ) : Type 0 where
   pub place : k ≡ namedBefore frame g p s
   pub plane-below : p < planeCount g
   pub place-below : k < slicesPerPlane g
-
--- refusals 5 to 8
-unfoldable pub layoutChecks : List ℕ → Geometry → Answer
-layoutChecks frame g =
-    let indices : Answer = inOrder (sliceCount g) (indexCheck frame g) in
-    preambleChecks frame g andThen indices

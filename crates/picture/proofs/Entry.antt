@@ -1,73 +1,58 @@
--- The parts of a decode's answer put together, over either entry.
+-- The parts of a decode's answer put together, over either entry. Only here, and once, is the lookup over the tables the word of the
+-- code lengths. Assumes nothing.
 use mathlib.Core.Path.{_≡_, refl, sym, ap, _∙_}
-use mathlib.Core.Bool.{Bool, true, false}
-use mathlib.Core.List.{List}
-use Prim.Native.Nat.{ℕ, _+_, _*_, _^_, _≤_, _<_}
+use mathlib.Core.Bool.{Bool, true, false, cond}
+use mathlib.Core.List.{List, [], _++_}
+use Prim.Native.Nat.{ℕ, zero, suc, _+_, _-_, _*_, _^_, _≤_, _<_}
 use native.Mathlib.Omega.{arith}
 use borrow.Author.Needs.{needs}
-use lib.ListN.{length}
-use Rattle.scope.specs.Refusals.{_andThen_, inOrder}
-use Rattle.scope.specs.Geometry.{planeCount, sliceCount, allSamples}
-use Rattle.scope.specs.Layout.{preambleStart}
+use lib.Dec.{eqb, ltb}
+use lib.ListN.{length, getD, drop, length-take}
+use lib.Pow.{pow-mono}
+use Rattle.scope.specs.Base as base
+use Rattle.scope.specs.Base.{part}
+use Rattle.scope.specs.Refusals as rfs
+use Rattle.scope.specs.Refusals.{refuseIf, _andThen_, inOrder}
+use Rattle.scope.specs.Geometry as geo
+use Rattle.scope.specs.Geometry.{correlated, planeCount, sliceCount, planeWidth, rowsAt, allElements, lengthsOf}
+use Rattle.scope.specs.Layout as lay
+use Rattle.scope.specs.Layout.{planeIndex, placeInPlane, payloadOf, samplesIn, sliceAt}
+use Rattle.scope.specs.Words.{longest, shares, shortest, need, wordAt}
+use Rattle.scope.specs.Lookup.{tableOf, lookupIn}
 use Rattle.scope.specs.Frame as frm
-use Rattle.scope.specs.Frame.{lentChecks, lengthCheck, needOfAll, roomCheck, frameChecks, readChecks, restOf, wirePlane, pictureOf}
+use Rattle.scope.specs.Frame.{lentChecks, indexCheck, lengthCheck, needOfAll, roomCheck, sliceLengths, sliceCheck, frameChecks, readCheck, readChecks, sliceSamples, planeUpTo, wirePlane, bufferPlane, planesUpTo, pictureOf, restOf}
 use Rattle.scope.specs.declared.Geometry.{Geometry}
 use Rattle.scope.specs.declared.Place.{Place}
+use Rattle.scope.specs.declared.Place.the-variants.{Nothing}
 use Rattle.scope.specs.declared.Answer.{Answer}
 use Rattle.scope.specs.declared.Answer.the-variants.{Done, Refused}
 use Rattle.geometry.specs.Sound.{Sound}
+use Rattle.geometry.proofs.Places.{planes-most}
+use Rattle.refusals.proofs.InOrder.{each-passed}
+use Rattle.refusals.proofs.Rows.{index-below}
 use Rattle.incoming.proofs.Refused as lent
 use Rattle.incoming.proofs.Refused.{depth-shallow, depth-deep}
-use Rattle.frame.proofs.Framed.{frame-indices, frame-order, frame-lengths, frame-room, frame-slices}
-use Rattle.planes.specs.Standing.{Planes, coloured}
-use Rattle.planes.proofs.Colours.{picture-is}
-use Rattle.picture.specs.Steps.{Checked}
-
--- ---- the rest of the table, once 1 to 4 have passed
-module _ (frame : List ℕ) (g : Geometry) (lengths : List ℕ) (w : ℕ) (a : Answer) (ea : a ≡ frameChecks frame g lengths (roomCheck g lengths w)) where
-  pub rest-refused : (n : ℕ) (p : Place) → a ≡ Refused n p → Refused n p ≡ restOf frame g lengths (roomCheck g lengths w)
-  unfolding frm.restOf
-  rest-refused n p h = rw (← ea, h)
-
-  module _ (da : a ≡ Done) where
-    passed : Done ≡ frameChecks frame g lengths (roomCheck g lengths w)
-    passed = sym da ∙ ea
-
-    -- what the checks leave
-    pub rest-checked : Sound g → length lengths ≡ planeCount g * 2 ^ g .depth → Checked frame g lengths
-    rest-checked ok el =
-        record {
-          sound = ok;
-          lengths-are = el;
-          indices-in = frame-indices frame g lengths w passed;
-          indices = frame-order frame g lengths w passed;
-          words = frame-lengths frame g lengths w passed;
-          slices = frame-slices frame g lengths w passed;
-        }
-
-    pub rest-words : Done ≡ inOrder (planeCount g) (lengthCheck g lengths)
-    rest-words = frame-lengths frame g lengths w passed
-
-    pub rest-room : needOfAll g lengths ≤ w
-    rest-room = frame-room frame g lengths w passed
-
-    -- the reading's answer is the rest of it
-    pub rest-read : (b : Answer) (n : ℕ) (p : Place) → b ≡ readChecks frame g lengths → b ≡ Refused n p → Refused n p ≡ restOf frame g lengths (roomCheck g lengths w)
-    unfolding frm.restOf
-    rest-read b n p eb h = rw (← ea, da) (sym h ∙ eb)
-
-    pub rest-done : (b : Answer) → b ≡ readChecks frame g lengths → b ≡ Done → Done ≡ restOf frame g lengths (roomCheck g lengths w)
-    unfolding frm.restOf
-    rest-done b eb h = rw (← ea, da) (sym h ∙ eb)
-
--- the planes that were read and coloured
-pub run-picture : (frame : List ℕ) (g : Geometry) (lengths : List ℕ) (b : Answer) (buf buf′ : List ℕ) → b ≡ Done → (b ≡ Done → Planes g (wirePlane frame g lengths) buf) → buf′ ≡ coloured g buf → buf′ ≡ pictureOf frame g lengths
-run-picture frame g lengths b buf buf′ db pl e = picture-is frame g lengths buf buf′ (pl db) e
-
-pub run-long : (g : Geometry) (b : Answer) (wire : ℕ → List ℕ) (buf : List ℕ) → b ≡ Done → (b ≡ Done → Planes g wire buf) → length buf ≡ allSamples g
-run-long g b wire buf db pl = pl db .whole
+use Rattle.codes.proofs.Lookup.{looks-table}
+use Rattle.geometry.proofs.Places.{width-fits, slice-height-fits}
+use Rattle.geometry.proofs.Figures.{samples-most}
+use Rattle.reader.specs.Reading.{Readable}
+use Rattle.reader.proofs.Chains.{code-readable}
+use Rattle.slice.proofs.Entry.{read-is, samples-is}
+use Rattle.slice.proofs.Passed.{passed-in}
+use Rattle.checks.specs.Slices.{framedBy}
+use Rattle.checks.proofs.Sliced.{slice-in, prefix-in, raw-bits}
+use Rattle.tables.specs.declared.Codes.{Codes}
+use Rattle.tables.specs.Codes.{codesOf}
+use Rattle.tables.specs.Tables.{planeNeed, Tables}
+use Rattle.tables.proofs.Told.{answer-is, need-is, plane-short, plane-full, plane-passed, from-is, longest-is, shortest-is, stretch-long, stretch-room}
+use Rattle.planes.proofs.Colours.{picture-same}
+use Rattle.scope.specs.declared.Found.{Found}
+use Rattle.checks.proofs.Framed.{framed-is, order-same, frame-order, frame-lengths, frame-room, frame-slices, room-in}
+use Rattle.picture.specs.Steps as stp
+use Rattle.picture.specs.Steps.{Look, readAt, samplesFor, gathered, planeOf, tableLook, Ready, pictureBy}
 
 -- ---- what refusals 1 to 4 leave, as the run asks for it
+
 module _ (deep : Bool) (g : Geometry) (l p : ℕ) (a : Answer) (ea : a ≡ lentChecks deep g l p) (da : a ≡ Done) where
   lent-passed : Done ≡ lentChecks deep g l p
   lent-passed = sym da ∙ ea
@@ -78,7 +63,7 @@ module _ (deep : Bool) (g : Geometry) (l p : ℕ) (a : Answer) (ea : a ≡ lentC
   pub lent-lengths : l ≡ planeCount g * 2 ^ g .depth
   lent-lengths = lent.lent-lengths deep g l p lent-passed
 
-  pub lent-planes : p ≡ allSamples g
+  pub lent-planes : p ≡ allElements g
   lent-planes = lent.lent-planes deep g l p lent-passed
 
 pub lent-8 : (g : Geometry) (l p : ℕ) (a : Answer) → a ≡ lentChecks false g l p → a ≡ Done → g .depth ≡ 8
@@ -86,3 +71,122 @@ lent-8 g l p a ea da = depth-shallow (g .depth) (lent.lent-depth false g l p (sy
 
 pub lent-deep : (g : Geometry) (l p : ℕ) (a : Answer) → a ≡ lentChecks true g l p → a ≡ Done → 8 < g .depth
 lent-deep g l p a ea da = omega (arith, depth-deep (g .depth) (lent.lent-depth true g l p (sym da ∙ ea)) .0)
+
+-- ---- the tables' lookup is the word of the lengths
+
+module _ (g : Geometry) (lengths workspace : List ℕ) (c : Codes) (is : c ≡ codesOf g lengths) (ok : c .answer ≡ Done) (tb : Tables g lengths workspace) (p : ℕ) (l : p < planeCount g) where
+  table-is : part workspace (getD (c .from) p 0) (getD (c .to) p 0 - getD (c .from) p 0) ≡ tableOf (lengthsOf g lengths p)
+  table-is =
+      let n : getD (c .to) p 0 - getD (c .from) p 0 ≡ planeNeed g lengths p = omega (arith, stretch-long g lengths c is ok p l) in
+      rw (n, from-is g lengths c is ok p l) (tb .each p l)
+
+  looks : (payload : List ℕ) (at : ℕ) → lookupIn (tableOf (lengthsOf g lengths p)) (longest (lengthsOf g lengths p)) payload at ≡ wordAt (lengthsOf g lengths p) payload at
+  looks payload at =
+      looks-table (lengthsOf g lengths p) payload at (plane-short g lengths p (plane-passed g lengths c is ok p l)) (plane-full g lengths p (plane-passed g lengths c is ok p l))
+
+  look-table : (payload : List ℕ) → tableLook workspace c p payload ≡ lookupIn (tableOf (lengthsOf g lengths p)) (longest (lengthsOf g lengths p)) payload
+  unfolding stp.tableLook
+  look-table payload = rw (table-is, longest-is g lengths c is ok p l)
+
+  pub look-own : (payload : List ℕ) (at : ℕ) → tableLook workspace c p payload at ≡ wordAt (lengthsOf g lengths p) payload at
+  look-own payload at = ap (λ (k : ℕ → Found). k at) (look-table payload) ∙ looks payload at
+
+  -- and so its symbols are below `limit`, and its words short
+  readable-own : (limit : ℕ) (payload : List ℕ) (n : ℕ) → length (lengthsOf g lengths p) ≤ limit → n ≤ 268435456 → Readable (tableLook workspace c p payload) limit 0 n
+  readable-own limit payload n few most =
+      rw (look-table payload)
+      (code-readable (lengthsOf g lengths p) (tableOf (lengthsOf g lengths p)) payload (looks payload) limit 0 n (plane-short g lengths p (plane-passed g lengths c is ok p l)) few (omega arith))
+
+-- a plane has 2^depth lengths at most
+lengths-most : (g : Geometry) (lengths : List ℕ) (p : ℕ) → length (lengthsOf g lengths p) ≤ 2 ^ g .depth
+unfolding geo.lengthsOf
+lengths-most g lengths p = omega (arith, length-take (2 ^ g .depth) (drop (p * 2 ^ g .depth) lengths))
+
+-- so bytes hold every symbol at depth 8, and 16 bits at any
+pub symbols-8 : (g : Geometry) → g .depth ≡ 8 → 2 ^ g .depth ≤ 2 ^ 8
+symbols-8 g d = pow-mono (omega (arith, d))
+
+pub symbols-16 : (g : Geometry) → Sound g → 2 ^ g .depth ≤ 2 ^ 16
+symbols-16 g ok = pow-mono (omega (arith, ok .deep .1))
+
+-- ---- what the checks leave
+
+-- a slice's samples are no more than the largest plane
+samples-most-in : (frame : List ℕ) (g : Geometry) (s : ℕ) → Sound g → samplesIn frame g s ≤ 268435456
+unfolding lay.samplesIn geo.rowsAt
+samples-most-in frame g s ok =
+    let r : rowsAt g (planeIndex frame g s) (placeInPlane frame g s) ≤ 16384 = unfold geo.rowsAt in (omega (arith, slice-height-fits g ok (planeIndex frame g s) .1)) in
+    samples-most (rowsAt g (planeIndex frame g s) (placeInPlane frame g s)) (planeWidth g (planeIndex frame g s)) r (width-fits g ok (planeIndex frame g s) .1)
+
+module _ (frame : List ℕ) (g : Geometry) (lengths : List ℕ) (c : Codes) (is : c ≡ codesOf g lengths) (w need : ℕ) (room : Answer) (en : need ≡ c .need) (er : room ≡ refuseIf (ltb w need) 11 Nothing)
+    (a : Answer) (ea : a ≡ framedBy frame g (c .answer) room (c .shortest)) where
+  room-is : c .answer ≡ Done → room ≡ roomCheck g lengths w
+  unfolding frm.roomCheck
+  room-is ok = er ∙ ap (λ (n : ℕ). refuseIf (ltb w n) 11 Nothing) (en ∙ need-is g lengths c is ok)
+
+  -- they are the table's
+  checks-are : a ≡ frameChecks frame g lengths (roomCheck g lengths w)
+  checks-are =
+      ea ∙ framed-is frame g lengths (c .answer) room (roomCheck g lengths w) (c .shortest) (answer-is g lengths c is) room-is
+      (λ ok p l. shortest-is g lengths c is ok p l)
+
+  -- a refusal is the answer
+  pub run-refused : (n : ℕ) (p : Place) → a ≡ Refused n p → Refused n p ≡ restOf frame g lengths (roomCheck g lengths w)
+  unfolding frm.restOf
+  run-refused n p h = rw (← checks-are, h)
+
+  module _ (da : a ≡ Done) where
+    passed : Done ≡ frameChecks frame g lengths (roomCheck g lengths w)
+    passed = sym da ∙ checks-are
+
+    pub run-codes : c .answer ≡ Done
+    run-codes = answer-is g lengths c is ∙ sym (frame-lengths frame g lengths (roomCheck g lengths w) passed)
+
+    pub run-room : needOfAll g lengths ≤ w
+    run-room = room-in g lengths w (frame-room frame g lengths (roomCheck g lengths w) passed)
+
+    slice-passed : (s : ℕ) → s < sliceCount g → Done ≡ sliceCheck frame g lengths s
+    slice-passed s l = each-passed (sliceCheck frame g lengths) (sliceCount g) s (frame-slices frame g lengths (roomCheck g lengths w) passed) l
+
+    -- what the reading asks, of the tables that were built
+    pub run-ready : (limit : ℕ) (workspace : List ℕ) → Sound g → 2 ^ g .depth ≤ limit → Tables g lengths workspace → Ready limit frame g workspace c
+    run-ready limit workspace ok few tb = record {
+      sound = ok;
+      indices = frame-order frame g lengths (roomCheck g lengths w) passed;
+      slices = λ s l. passed-in frame g s (prefix-in frame g lengths s (slice-passed s l)) (slice-in frame g lengths s (slice-passed s l)) (raw-bits frame g lengths s (slice-passed s l)) (samples-most-in frame g s ok);
+      starts = λ p l. omega (arith, stretch-long g lengths c is run-codes p l);
+      ends = λ p l. omega (arith, stretch-room g lengths c is run-codes p l, tb .room);
+      readable = λ p payload n l most. readable-own g lengths workspace c is run-codes tb p l limit payload n (omega (arith, lengths-most g lengths p, few)) most;
+    }
+
+    -- ---- the reading by the tables is the reading by the lengths
+    module _ (workspace : List ℕ) (tb : Tables g lengths workspace) where
+      same : (s : ℕ) → s < sliceCount g → (at : ℕ) → tableLook workspace c (planeIndex frame g s) (payloadOf frame g s) at ≡ wordAt (sliceLengths frame g lengths s) (payloadOf frame g s) at
+      same s l at =
+          look-own g lengths workspace c is run-codes tb (planeIndex frame g s)
+          (index-below frame g s (each-passed (indexCheck frame g) (sliceCount g) s (frame-order frame g lengths (roomCheck g lengths w) passed) l)) (payloadOf frame g s) at
+
+      reads-are : inOrder (sliceCount g) (readAt (tableLook workspace c) frame g) ≡ readChecks frame g lengths
+      unfolding frm.readChecks stp.readAt
+      reads-are = order-same (sliceCount g) _ _ (λ s l. read-is frame g lengths s (tableLook workspace c (planeIndex frame g s) (payloadOf frame g s)) (same s l))
+
+      gathered-are : (p s : ℕ) → s ≤ sliceCount g → gathered (samplesFor (tableLook workspace c) frame g) frame g p s ≡ planeUpTo frame g lengths p s
+      unfolding stp.gathered frm.planeUpTo stp.samplesFor
+      gathered-are p zero l = refl
+      gathered-are p (suc s) l =
+          rw (gathered-are p s (omega arith), samples-is frame g lengths s (tableLook workspace c (planeIndex frame g s) (payloadOf frame g s)) (same s (omega arith)))
+
+      planes-are : (p : ℕ) → planeOf (samplesFor (tableLook workspace c) frame g) frame g p ≡ wirePlane frame g lengths p
+      unfolding stp.planeOf frm.wirePlane
+      planes-are p = gathered-are p (sliceCount g) (omega arith)
+
+      module _ (b : Answer) (eb : b ≡ inOrder (sliceCount g) (readAt (tableLook workspace c) frame g)) where
+        -- the reading's answer is the rest of the table
+        pub run-read : b ≡ restOf frame g lengths (roomCheck g lengths w)
+        unfolding frm.restOf
+        run-read = rw (← passed) (eb ∙ reads-are)
+
+        -- and its planes, coloured, are the picture
+        pub run-picture : (buf : List ℕ) → b ≡ Done → (b ≡ Done → buf ≡ pictureBy g (planeOf (samplesFor (tableLook workspace c) frame g) frame g)) → buf ≡ pictureOf frame g lengths
+        unfolding frm.pictureOf stp.pictureBy
+        run-picture buf db pl = pl db ∙ picture-same g _ _ (λ p l. planes-are p)

@@ -1,6 +1,6 @@
 -- What a reading says of the chain, and of a code's own words where its table is read; and how a reading goes on from where another one
 -- ended (document 01, "Words and lookup"). Assumes nothing.
-use mathlib.Core.Path.{_≡_, refl, sym, ap, _∙_}
+use mathlib.Core.Path.{_≡_, refl, sym, ap, _∙_, subst}
 use Prim.Native.Nat.{ℕ, zero, suc, _+_, _*_, _^_, _≤_, _<_}
 use native.Mathlib.Nat.{zero-add, suc-add}
 use native.Mathlib.Omega.{arith}
@@ -13,6 +13,7 @@ use Rattle.scope.specs.declared.Found.the-variants.{Word, NoWord}
 use Rattle.codes.proofs.Words.{FoundIn, found-in}
 use Rattle.codes.proofs.Chains.{chain-same}
 use Rattle.reader.specs.Reading.{onward, positionAfter, reached, WordsRead, Readable}
+use Rattle.reader.specs.declared.Reached.{Reached}
 use Rattle.reader.specs.declared.Reached.the-variants.{End, Stuck}
 use Rattle.reader.proofs.Reading.{then}
 
@@ -50,6 +51,14 @@ module _ (look : ℕ → Found) (at n : ℕ) (out : List ℕ) where
           let g : Stuck p ≡ Stuck q = a ∙ unfold reached in (ap (λ (c : Chain). reached c (positionAfter look at n)) f) in
           let h : p ≡ q = cc in
           f ∙ ap stuckAt (sym h)
+
+-- any two readings answer the same, and where they end they hand out the same
+pub reading-once : {look : ℕ → Found} {at n : ℕ} {r₁ r₂ : Reached} {out₁ out₂ : List ℕ}
+    → WordsRead look at n r₁ out₁ → WordsRead look at n r₂ out₂ → (r₁ ≡ r₂) × ((e : ℕ) → r₁ ≡ End e → out₁ ≡ out₂)
+reading-once {look} {at} {n} {out₁ = out₁} p q = (
+  p .answer ∙ sym (q .answer),
+  λ e f. sym (q .handed out₁ (end-chain look at n out₁ e (subst (λ (r : Reached). WordsRead look at n r out₁) f p))),
+)
 
 -- ---- n words, and then k more
 

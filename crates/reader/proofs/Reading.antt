@@ -18,8 +18,8 @@ use Rattle.scope.specs.declared.Found.the-variants.{Word, NoWord}
 use Rattle.codes.proofs.Chains.{no-symbols}
 use Rattle.reader.specs.Reading.{onward, positionAfter, reached, WordsRead, Readable}
 use Rattle.reader.specs.Stepping.{behind, stepFrom}
-use Rattle.reader.specs.declared.Step.{Step}
-use Rattle.reader.specs.declared.Step.the-variants.{Past, Still}
+use Rattle.reader.specs.declared.Stepped.{Stepped}
+use Rattle.reader.specs.declared.Stepped.the-variants.{Past, Still}
 use Rattle.reader.specs.declared.Reached.the-variants.{End, Stuck}
 use Rattle.reader.proofs.Stepping.{Taken, past-taken, still-none}
 
@@ -62,7 +62,7 @@ reads-start look limit at out ok = record {
 
 module _ (look : ℕ → Found) (limit at n : ℕ) (out : List ℕ) (p k : ℕ) (d : Reads look limit at n out p k) where
   -- one step
-  module _ (o : Step) (h : k < length out) (e : o ≡ stepFrom (look p) p) where
+  module _ (o : Stepped) (h : k < length out) (e : o ≡ stepFrom (look p) p) where
     left : n - k ≡ suc (n - (k + 1))
     left = omega (arith, d .long)
 

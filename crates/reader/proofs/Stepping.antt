@@ -8,8 +8,8 @@ use borrow.Author.Needs.{needs}
 use Rattle.scope.specs.declared.Found.{Found}
 use Rattle.scope.specs.declared.Found.the-variants.{Word, NoWord}
 use Rattle.reader.specs.Stepping.{behind, stepTo, stepFrom}
-use Rattle.reader.specs.declared.Step.{Step}
-use Rattle.reader.specs.declared.Step.the-variants.{Past, Still}
+use Rattle.reader.specs.declared.Stepped.{Stepped}
+use Rattle.reader.specs.declared.Stepped.the-variants.{Past, Still}
 
 module _ (found : Found) (at : ℕ) where
   -- no word: the position stays
@@ -45,7 +45,7 @@ module _ (f g : Found) (p n : ℕ) (e : f ≡ g) (h : p ≡ n) where
   steps-near k = rw (e, h) k
 
   -- and the step is the one from its position
-  pub steps-whole : (z : Step) (k : ℕ) → z ≡ stepTo f k → k ≡ behind f p → z ≡ stepFrom g n
+  pub steps-whole : (z : Stepped) (k : ℕ) → z ≡ stepTo f k → k ≡ behind f p → z ≡ stepFrom g n
   unfolding stepFrom
   steps-whole z k a b = a ∙ ap (stepTo f) b ∙ rw (e, h) refl
 

@@ -1,15 +1,13 @@
 // Document 01: "a thin reader that holds the payload stands over it": a struct with the payload slice and bit position, few functions
-// over covered ones; and the coded loop over it ("takes every sample from that lookup"). The borrow checker covers no function over a
-// struct that holds a slice, so `over`, `word`, `past`, `position` and `next` are proved by hand. `next` has plain parameters: whoever
-// calls it is covered again.
+// over covered ones; and one step of the coded loop over it ("takes every sample from that lookup"). The borrow checker covers no
+// function over a struct that holds a slice, so `over`, `word`, `past`, `position` and `next` are proved by hand. `next` has plain
+// parameters: whoever calls it is covered again. The loops at both widths (chain8, chain16) say by `Reached` where they ended.
 use lookup::lookup;
 use scope::Found;
 ghost use mathlib.Core.Path.{_≡_};
 ghost use Prim.Native.Nat.{_<_, _^_};
-ghost use lib.ListN.{length};
 ghost use Rattle.scope.specs.Lookup.{lookupIn};
 ghost use Rattle.reader.specs.Stepping.{behind, stepTo, stepFrom};
-ghost use Rattle.reader.specs.Reading.{Readable, WordsRead};
 
 // The payload, and the bit position that the next word begins at.
 pub struct Reader<'a> {
@@ -18,7 +16,7 @@ pub struct Reader<'a> {
 }
 
 // What one step meets: a word, with its symbol and the position at its end, or no word, and the reader stands still.
-pub enum Step {
+pub enum Stepped {
     Past { symbol: usize, end: usize },
     Still,
 }
@@ -41,12 +39,12 @@ fn behind(found: Found, at: usize) -> usize
 }
 
 // What is found, with the position that the reader has then.
-fn stepped(found: Found, end: usize) -> Step
+fn step(found: Found, end: usize) -> Stepped
     ensures { λ r. ⌜ r ≡ stepTo found end ⌝ }
 {
     match found {
-        Found::NoWord => Step::Still,
-        Found::Word { length, symbol } => Step::Past { symbol, end },
+        Found::NoWord => Stepped::Still,
+        Found::Word { length, symbol } => Stepped::Past { symbol, end },
     }
 }
 
@@ -83,55 +81,11 @@ pub fn past<'a>(r: Reader<'a>, found: Found) -> Reader<'a>
 }
 
 // One step of the coded loop, at plain parameters: a reader is made, looks a word up, and steps past it.
-pub fn next(words: &[u32], m: usize, payload: &[u8], at: usize) -> Step
+pub fn next(words: &[u32], m: usize, payload: &[u8], at: usize) -> Stepped
     requires { ⌜ behind (lookupIn (now words) m (now payload) at) at < 2 ^ 64 ⌝ }
     ensures { λ s. ⌜ s ≡ stepFrom (lookupIn (now (words .entry)) m (now (payload .entry)) at) at ⌝ }
 {
     let r = over(payload, at);
     let found = word(r, words, m);
-    stepped(found, position(past(r, found)))
-}
-
-// As many words as `out` has places, one after the other from bit position `at` on: their symbols, and where the next word would begin.
-pub fn words_u16(table: &[u32], m: usize, payload: &[u8], at: usize, out: &mut [u16]) -> Reached
-    requires { ⌜ Readable (lookupIn (now table) m (now payload)) (2 ^ 16) at (length (now out)) ⌝ }
-    ensures { λ r. ⌜ WordsRead (lookupIn (now (table .entry)) m (now (payload .entry))) at (length (now (out .entry))) r (now (out .exit)) ⌝ }
-{
-    let mut p = at;
-    let mut k: usize = 0;
-    while k < out.len() {
-        match next(table, m, payload, p) {
-            Step::Still => {
-                return Reached::Stuck(p);
-            }
-            Step::Past { symbol, end } => {
-                out[k] = symbol as u16;
-                p = end;
-                k += 1;
-            }
-        }
-    }
-    Reached::End(p)
-}
-
-// The same into bytes.
-pub fn words_u8(table: &[u32], m: usize, payload: &[u8], at: usize, out: &mut [u8]) -> Reached
-    requires { ⌜ Readable (lookupIn (now table) m (now payload)) (2 ^ 8) at (length (now out)) ⌝ }
-    ensures { λ r. ⌜ WordsRead (lookupIn (now (table .entry)) m (now (payload .entry))) at (length (now (out .entry))) r (now (out .exit)) ⌝ }
-{
-    let mut q = at;
-    let mut j: usize = 0;
-    while j < out.len() {
-        match next(table, m, payload, q) {
-            Step::Still => {
-                return Reached::Stuck(q);
-            }
-            Step::Past { symbol, end } => {
-                out[j] = symbol as u8;
-                q = end;
-                j += 1;
-            }
-        }
-    }
-    Reached::End(q)
+    step(found, position(past(r, found)))
 }

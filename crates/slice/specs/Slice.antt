@@ -1,54 +1,66 @@
--- What the functions that read a slice promise each other (document 01, "Layout" and "Words and lookup"). Assumes nothing.
+-- One slice, of its record a in the frame, read by any way `look` to find the word at a bit position of its payload: a table's lookup
+-- or another that finds the same words (document 01, "Layout", "Refusal numbers", "Prediction, slice by slice"). Assumes nothing.
 use mathlib.Core.Path.{_≡_}
-use mathlib.Core.Bool.{Bool, true, false, cond}
+use mathlib.Core.Bool.{true, cond, not, _&&_}
 use mathlib.Core.List.{List}
-use Prim.Native.Nat.{ℕ, _+_, _-_, _*_, _%_, _^_, _≤_, _<_}
-use lib.Dec.{eqb}
-use lib.ListN.{length, take, drop, getD}
-use Rattle.scope.specs.Base.{part}
-use Rattle.scope.specs.Geometry.{planeCount, sliceCount, lengthsOf}
-use Rattle.scope.specs.Layout.{preambleStart, planeIndex, samplesIn}
+use Prim.Native.Nat.{ℕ, _+_, _-_, _*_, _≤_}
+use lib.Dec.{leb}
+use lib.ListN.{length, take, drop}
+use Rattle.scope.specs.Refusals.{refuseIf, _andThen_}
 use Rattle.scope.specs.Bits.{rawSamples}
-use Rattle.scope.specs.Words.{longest, shares, Chain, symbols, stuckAt, chain}
-use Rattle.scope.specs.Lookup.{tableOf}
-use Rattle.scope.specs.Frame.{sliceCheck}
-use Rattle.scope.specs.declared.Geometry.{Geometry}
-use Rattle.scope.specs.declared.Answer.the-variants.{Done}
-use Rattle.geometry.specs.Sound.{Sound}
+use Rattle.scope.specs.Words.{Chain, symbols, chainBy}
+use Rattle.scope.specs.Prediction.{samplesOf}
+use Rattle.scope.specs.Frame.{readable, symbolsOf}
+use Rattle.scope.specs.declared.SliceAt.{SliceAt}
+use Rattle.scope.specs.declared.Found.{Found}
+use Rattle.scope.specs.declared.Place.the-variants.{Slice, Plane}
+use Rattle.scope.specs.declared.Answer.{Answer}
+use Rattle.scope.specs.declared.Answer.the-variants.{Done, Refused}
+use Rattle.reader.specs.Reading.{positionAfter, reached}
+use Rattle.reader.specs.declared.Reached.{Reached}
+use Rattle.reader.specs.declared.Reached.the-variants.{End, Stuck}
 
--- residues as they were read: all of them stand in `out`, or no word fits at some position and what `out` holds is not said
-pub record Residues (c : Chain) (all : Bool) (out : List ℕ) : Type 0 where
-  pub read : all ≡ true → c ≡ symbols out
-  pub stuck : all ≡ false → (at : ℕ) × (c ≡ stuckAt at)
+-- the bytes after the prefix
+abbrev pub payloadIn : List ℕ → SliceAt → List ℕ
+payloadIn frame a = take (a .end - (a .start + 2)) (drop (a .start + 2) frame)
 
--- the residues of a slice that stands in the frame from `from` to `to`: its flag, its predictor, and its payload, of n samples
-unfoldable pub residuesIn : ℕ → List ℕ → List ℕ → ℕ → ℕ → ℕ → Chain
-residuesIn depth ls frame from to n =
-    let payload : List ℕ = take (to - (from + 2)) (drop (from + 2) frame) in
-    let raw : Chain = symbols (rawSamples depth payload n) in
-    let coded : Chain = chain ls payload 0 n in
-    cond (eqb (getD frame from 0 % 2) 1) raw coded
+-- what a slice that passed its checks has: its prefix, its place in the frame, if it is raw depth bits for each sample, and no more
+-- samples than the largest plane
+pub record SliceIn (depth : ℕ) (frame : List ℕ) (a : SliceAt) : Type 0 where
+  pub prefix : a .start + 2 ≤ a .end
+  pub inside : a .end ≤ length frame
+  pub room : a .raw ≡ true → a .rows * a .width * depth ≤ 8 * (a .end - (a .start + 2))
+  pub most : a .rows * a .width ≤ 268435456
 
--- the table of the code ls stands in the workspace from a to e, and m is its longest length
-pub record TableAt (ls workspace : List ℕ) (a e m : ℕ) : Type 0 where
-  pub short : longest ls ≤ 18
-  pub full : shares ls ≤ 262144
-  pub few : length ls ≤ 16384
-  pub longest-is : m ≡ longest ls
-  pub ordered : a ≤ e
-  pub inside : e ≤ length workspace
-  pub stands : part workspace a (e - a) ≡ tableOf ls
+module _ (look : ℕ → Found) (depth : ℕ) (frame : List ℕ) (a : SliceAt) where
+  -- its residues, or the position at which no word fits
+  unfoldable pub residuesBy : Chain
+  residuesBy =
+      let raw : Chain = symbols (rawSamples depth (payloadIn frame a) (a .rows * a .width)) in
+      let coded : Chain = chainBy look 0 (a .rows * a .width) in
+      cond (a .raw) raw coded
 
--- slice s, of plane p, has passed the checks, and n samples are its own
-pub record Sliced (frame : List ℕ) (g : Geometry) (lengths : List ℕ) (t s p n : ℕ) : Type 0 where
-  pub sound : Sound g
-  pub slices : t ≡ sliceCount g
-  pub few : t ≤ 65536
-  pub below : s < t
-  pub indices : preambleStart g + 1 + sliceCount g ≤ length frame
-  pub passed : Done ≡ sliceCheck frame g lengths s
-  pub plane : p ≡ planeIndex frame g s
-  pub below-planes : p < planeCount g
-  pub samples : n ≡ samplesIn frame g s
-  pub most : n ≤ 268435456
-  pub lengths-are : length lengths ≡ planeCount g * 2 ^ g .depth
+  -- the bit position behind the last of them
+  unfoldable pub endBy : ℕ
+  endBy = cond (a .raw) (a .rows * a .width * depth) (positionAfter look 0 (a .rows * a .width))
+
+  -- The statement of a reading of residues: it says where it ended, and hands them all out. What a reading that is stuck leaves is not
+  -- said.
+  pub record ResiduesRead (r : Reached) (out : List ℕ) : Type 0 where
+    pub answer : r ≡ reached residuesBy endBy
+    pub handed : (ss : List ℕ) → residuesBy ≡ symbols ss → out ≡ ss
+
+  -- "each 15 before its 14": "predictor not 1, 2 or 3"
+  unfoldable pub readBy : Answer
+  readBy =
+      refuseIf (not (leb 1 (a .predictor) && leb (a .predictor) 3)) 15 (Slice (a .number))
+      andThen readable (a .plane) residuesBy
+
+-- its samples; f is how many fields the rows belong to in turn
+unfoldable pub samplesBy : (ℕ → Found) → ℕ → ℕ → List ℕ → SliceAt → List ℕ
+samplesBy look depth f frame a = samplesOf depth (a .predictor) (a .width) f (symbolsOf (residuesBy look depth frame a))
+
+-- what is answered where a reading ended: "no word fits the next bits" is 14 at the plane
+unfoldable pub answered : ℕ → Reached → Answer
+answered plane (End at) = Done
+answered plane (Stuck at) = Refused 14 (Plane plane)

@@ -15,8 +15,8 @@ mul-if1 c = search lent-sizes
 returns : tie.Need-returns
 returns c = search lent-sizes
 
-all-samples-requires : tie.Need-all-samples-requires
-all-samples-requires c κs = search lent-sizes
+all-elements-requires : tie.Need-all-elements-requires
+all-elements-requires c κs = search lent-sizes
 
 returns-2 : tie.Need-returns-2
 returns-2 c = search lent-sizes
@@ -32,6 +32,6 @@ check-sizes-spec =
     symbol-count-requires
     mul-if1
     returns
-    all-samples-requires
+    all-elements-requires
     returns-2
     returns-3)

@@ -1,4 +1,4 @@
--- `reader::next` meets its contract: a walk of its MIR, by hand. A `Reader` that `over` returns is held in a local; `word` looks up at it, `past` and `position` give the position behind what is found, and `stepped` makes the step of the two. All that the proof knows of the five is that each meets its contract.
+-- `reader::next` meets its contract: a walk of its MIR, by hand. A `Reader` that `over` returns is held in a local; `word` looks up at it, `past` and `position` give the position behind what is found, and `step` makes the step of the two. All that the proof knows of the five is that each meets its contract.
 -- The machine values that they return are stored and passed on as they are. In a local of a body MIR erases the lifetime of the struct's type, so each such value is shown to have the type at `erased`: what the struct owns does not say the lifetime's name.
 -- The payload's token goes to `over`, `past` and `position`, both tokens go to `word`, and all come back. What is found owns facts alone, which are made anew for each call.
 -- Assumes nothing.
@@ -46,12 +46,12 @@ use Rattle.scope.proofs.Found.Laws as F′
 use Rattle.reader.specs.Stepping.{stepTo, stepFrom}
 use Rattle.reader.specs.Stepping as def
 use Rattle.reader.specs.declared.Reader.{Reader}
-use Rattle.reader.specs.declared.Step.{Step}
+use Rattle.reader.specs.declared.Stepped.{Stepped}
 use Rattle.reader.proofs.Stepping.{steps-near, steps-whole}
 use Rattle.reader.proofs.Reader as T
 use Rattle.reader.proofs.Reader.Laws as T′
-use Rattle.reader.proofs.Step as S
-use Rattle.reader.proofs.Step.Laws as S′
+use Rattle.reader.proofs.Stepped as S
+use Rattle.reader.proofs.Stepped.Laws as S′
 use Rattle.reader.proofs.over as over
 use Rattle.reader.proofs.over.Symbol as over-def
 use Rattle.reader.proofs.over.Symbol.{name as #reader·over}
@@ -68,10 +68,10 @@ use Rattle.reader.proofs.position as position
 use Rattle.reader.proofs.position.Symbol as position-def
 use Rattle.reader.proofs.position.Symbol.{name as #reader·position}
 use Rattle.reader.proofs.position.Met as position-thm
-use Rattle.reader.proofs.stepped as stepped
-use Rattle.reader.proofs.stepped.Symbol as stepped-def
-use Rattle.reader.proofs.stepped.Symbol.{name as #reader·stepped}
-use Rattle.reader.proofs.stepped.Met as stepped-thm
+use Rattle.reader.proofs.step as step
+use Rattle.reader.proofs.step.Symbol as step-def
+use Rattle.reader.proofs.step.Symbol.{name as #reader·step}
+use Rattle.reader.proofs.step.Met as step-thm
 use Rattle.reader.proofs.next.Key.{name as #reader·next}
 use Rattle.reader.proofs.next as next
 use Rattle.reader.proofs.next.Statement as stated
@@ -94,8 +94,8 @@ module _ {M : Type 1} (𝓤 : URA M) (H : Heap 𝓤) (A : Atoms 𝓤) (mem : Mem
   abbrev Position : Contract 𝓤
   Position = tripleOf 𝓤 H A position.signature (position.spec 𝓤 H A mem run)
 
-  abbrev Stepped : Contract 𝓤
-  Stepped = tripleOf 𝓤 H A stepped.signature (stepped.spec 𝓤 H A mem run)
+  abbrev Step : Contract 𝓤
+  Step = tripleOf 𝓤 H A step.signature (step.spec 𝓤 H A mem run)
 
 module _ {M : Type 1} (𝓤 : URA M) (H : Heap 𝓤) (A : Atoms 𝓤) (W : Given 𝓤 H A) (mem : Memory → SProp 𝓤) (run : Routine → Fun 𝓤) (κ κ′ : Lft) (q q′ : Share) (t : RefT (List ℕ)) (m : ℕ) (s : RefT (List ℕ)) (n : ℕ) (m-fits : m < 2 ^ 64) (n-fits : n < 2 ^ 64) where
   abbrev κs : Lfts 2
@@ -203,20 +203,20 @@ module _ {M : Type 1} (𝓤 : URA M) (H : Heap 𝓤) (A : Atoms 𝓤) (W : Given
     position-said : (k : ℕ) → ent 𝓤 (ensured 𝓤 H A position.ended (position.clauses 𝓤 H A mem run) (κ′, tt) (r, tt) tt k) (fact 𝓤 (k ≡ r .at))
     position-said k = exE 𝓤 _ (λ ws. snd∗ 𝓤 (sem 𝓤 H A (lasts position.ended (κ′, tt) (r, tt) ws)) (fact 𝓤 (k ≡ r .at)))
 
-  -- ---- `stepped`, at what was found and the position behind it
+  -- ---- `step`, at what was found and the position behind it
   module _ (f : Found) (y : Val) (k : ℕ) (x : Val) where
-    abbrev to-stepped : Stepped 𝓤 H A mem run .Ghost
-    to-stepped = ((tt, tt, tt, (f, (k, tt)), (y ∷ [], (x ∷ [], tt))), tt)
+    abbrev to-step : Step 𝓤 H A mem run .Ghost
+    to-step = ((tt, tt, tt, (f, (k, tt)), (y ∷ [], (x ∷ [], tt))), tt)
 
-    goes-stepped : Is F.the-row f (y ∷ []) → Is usize k (x ∷ []) → ent 𝓤 (emp 𝓤) (Stepped 𝓤 H A mem run .pre to-stepped)
-    goes-stepped is is′ =
+    goes-step : Is F.the-row f (y ∷ []) → Is usize k (x ∷ []) → ent 𝓤 (emp 𝓤) (Step 𝓤 H A mem run .pre to-step)
+    goes-step is is′ =
         qed W [] ∵ nothing ! $ owned ! usize (Is usize) (uint-makes 𝓤 H A W w64) k _ is′ $ fjoin ! $
         owned ! F.the-row (Is F.the-row) (EL.makes F.the-type F′.the-plain 𝓤 H A) f _ is $ fjoin ! $ nothing ! $ join ! $ frame ! $ done !
 
-    stepped-said : (z : Step) → ent 𝓤 (ensured 𝓤 H A stepped.ended (stepped.clauses 𝓤 H A mem run) tt (f, (k, tt)) tt z) (fact 𝓤 (z ≡ stepTo f k))
-    stepped-said z = exE 𝓤 _ (λ ws. snd∗ 𝓤 (sem 𝓤 H A (lasts stepped.ended tt (f, (k, tt)) ws)) (fact 𝓤 (z ≡ stepTo f k)))
+    step-said : (z : Stepped) → ent 𝓤 (ensured 𝓤 H A step.ended (step.clauses 𝓤 H A mem run) tt (f, (k, tt)) tt z) (fact 𝓤 (z ≡ stepTo f k))
+    step-said z = exE 𝓤 _ (λ ws. snd∗ 𝓤 (sem 𝓤 H A (lasts step.ended tt (f, (k, tt)) ws)) (fact 𝓤 (z ≡ stepTo f k)))
 
-  exits : (z : Step) (y : Val) → z ≡ stepFrom found n → ent 𝓤 (⋆ 𝓤 H A (‵ (S.the-row .own z (y ∷ [])) ∷ (‵ (flft κ′ q′) ⊛ ‵ ftrue) ∷ ‵ (flft κ q) ∷ ‵ Own-t ∷ ‵ Own-s ∷ [])) (Post y)
+  exits : (z : Stepped) (y : Val) → z ≡ stepFrom found n → ent 𝓤 (⋆ 𝓤 H A (‵ (S.the-row .own z (y ∷ [])) ∷ (‵ (flft κ′ q′) ⊛ ‵ ftrue) ∷ ‵ (flft κ q) ∷ ‵ Own-t ∷ ‵ Own-s ∷ [])) (Post y)
   exits z y e =
       qed W (‵ (S.the-row .own z (y ∷ [])) ∷ (‵ (flft κ′ q′) ⊛ ‵ ftrue) ∷ ‵ (flft κ q) ∷ ‵ Own-t ∷ ‵ Own-s ∷ []) ∵
       suffices ! _ (ends-at 𝓤 H A next.ended stayed (next.clauses 𝓤 H A mem run) W ((κs, (q, (q′, tt)), tt, a, at), tt) y z (tt, (tt, (tt, (tt, tt)))) (tt, (tt, (tt, (tt, tt))))) $ says ! e $
@@ -229,7 +229,7 @@ module _ {M : Type 1} (𝓤 : URA M) (H : Heap 𝓤) (A : Atoms 𝓤) (W : Given
   sought : (r : Reader) (f : Found) → (r .payload ≡ s) × (r .at ≡ n) → f ≡ lookupIn (now t) m (now (r .payload)) (r .at) → f ≡ found
   sought r f e e₂ = e₂ ∙ (ap (λ (x : RefT (List ℕ)). lookupIn (now t) m (now x) (r .at)) (e .0) ∙ ap (lookupIn (now t) m (now s)) (e .1))
 
-  module _ (ok : def.behind found n < 2 ^ 64) (C : Calls 𝓤 H) (Λ : Loops 𝓤 H) (fm : FmC 𝓤 H (W .laws) C) (known-over : Triple 𝓤 (C #reader·over) (Over 𝓤 H A mem run)) (known-word : Triple 𝓤 (C #reader·word) (Word 𝓤 H A mem run)) (known-past : Triple 𝓤 (C #reader·past) (Past 𝓤 H A mem run)) (known-position : Triple 𝓤 (C #reader·position) (Position 𝓤 H A mem run)) (known-stepped : Triple 𝓤 (C #reader·stepped) (Stepped 𝓤 H A mem run)) where
+  module _ (ok : def.behind found n < 2 ^ 64) (C : Calls 𝓤 H) (Λ : Loops 𝓤 H) (fm : FmC 𝓤 H (W .laws) C) (known-over : Triple 𝓤 (C #reader·over) (Over 𝓤 H A mem run)) (known-word : Triple 𝓤 (C #reader·word) (Word 𝓤 H A mem run)) (known-past : Triple 𝓤 (C #reader·past) (Past 𝓤 H A mem run)) (known-position : Triple 𝓤 (C #reader·position) (Position 𝓤 H A mem run)) (known-step : Triple 𝓤 (C #reader·step) (Step 𝓤 H A mem run)) where
     walk : Is (ShrSlice (named 0) κ u32) t (w ∷ []) → Is (ShrSlice (named 1) κ′ u8) s (v ∷ [])
         → ent 𝓤 (onEntry 𝓤 H A next.signature κs (q, (q′, tt)) a at) (WpFn 𝓤 H C Λ code.function (w ∷ vint w64 m ∷ v ∷ vint w64 n ∷ []) Post)
     walk p p′ =
@@ -273,10 +273,10 @@ module _ {M : Type 1} (𝓤 : URA M) (H : Heap 𝓤) (A : Atoms 𝓤) (W : Given
         peeks ! usize (Is usize) (shows 𝓤 H A usize) k (x ∷ []) (λ is₄.
         land ! (from ! (stop !)) (init ! 9 refl (uint-lawful 𝓤 H A W w64 .typed k _ is₄ .0)) $ drop ! $
         -- [the payload's token; the table's; what the table owns; what the payload owns; _10; …]
-        use0 W (raw (Stepped 𝓤 H A mem run .pre (to-stepped f y k x))) (goes-stepped f y k x is₂ is₄) $
-        calls-at ! fm (Stepped 𝓤 H A mem run) known-stepped (to-stepped f y k x) (and-then ! (load ! (from ! (stop !)) (look ! 13 refl)) (and-then ! (load ! (from ! (stop !)) (look ! 9 refl)) (no-more !))) (λ y′.
-        use1 W (later (some (λ (z : Step). (‵ ftrue ⊛ ‵ (S.the-row .own z (y′ ∷ []))) ⊛ raw (ensured 𝓤 H A stepped.ended (stepped.clauses 𝓤 H A mem run) tt (f, (k, tt)) tt z)))) (id⊢ 𝓤 _) $ await ! tt $ pick ! (λ z.
-        split ! $ move ! (1 ∷ []) $ use1 W (raw (fact 𝓤 (z ≡ stepTo f k))) (stepped-said f y k x z) $ heard ! (z ≡ stepTo f k) (λ e₅. split ! $ drop ! $
+        use0 W (raw (Step 𝓤 H A mem run .pre (to-step f y k x))) (goes-step f y k x is₂ is₄) $
+        calls-at ! fm (Step 𝓤 H A mem run) known-step (to-step f y k x) (and-then ! (load ! (from ! (stop !)) (look ! 13 refl)) (and-then ! (load ! (from ! (stop !)) (look ! 9 refl)) (no-more !))) (λ y′.
+        use1 W (later (some (λ (z : Stepped). (‵ ftrue ⊛ ‵ (S.the-row .own z (y′ ∷ []))) ⊛ raw (ensured 𝓤 H A step.ended (step.clauses 𝓤 H A mem run) tt (f, (k, tt)) tt z)))) (id⊢ 𝓤 _) $ await ! tt $ pick ! (λ z.
+        split ! $ move ! (1 ∷ []) $ use1 W (raw (fact 𝓤 (z ≡ stepTo f k))) (step-said f y k x z) $ heard ! (z ≡ stepTo f k) (λ e₅. split ! $ drop ! $
         -- [the result; the payload's token; the table's; what the table owns; what the payload owns; _10; …; room for _0; …]
         peeks ! S.the-row (Is S.the-row) (shows 𝓤 H A S.the-row) z (y′ ∷ []) (λ is₅.
         land ! (from ! (stop !)) (init ! 25 refl (EL.lawful S.the-type S′.the-laws 𝓤 H A W tt .typed z _ is₅ .0)) $
@@ -285,16 +285,16 @@ module _ {M : Type 1} (𝓤 : URA M) (H : Heap 𝓤) (A : Atoms 𝓤) (W : Given
         by ! (exits z y′ (steps-whole f found (r .at) n (sought r f e e₂) (e .1) z k e₅ (e₄ ∙ e₃ .1))))))))))))))))))))))))))))))))))
 
 module _ {M : Type 1} (𝓤 : URA M) (H : Heap 𝓤) (A : Atoms 𝓤) (W : Given 𝓤 H A) (mem : Memory → SProp 𝓤) (run : Routine → Fun 𝓤) where
-  next-walks : (C : Calls 𝓤 H) (Λ : Loops 𝓤 H) → FmC 𝓤 H (W .laws) C → Triple 𝓤 (C #reader·over) (Over 𝓤 H A mem run) → Triple 𝓤 (C #reader·word) (Word 𝓤 H A mem run) → Triple 𝓤 (C #reader·past) (Past 𝓤 H A mem run) → Triple 𝓤 (C #reader·position) (Position 𝓤 H A mem run) → Triple 𝓤 (C #reader·stepped) (Stepped 𝓤 H A mem run)
+  next-walks : (C : Calls 𝓤 H) (Λ : Loops 𝓤 H) → FmC 𝓤 H (W .laws) C → Triple 𝓤 (C #reader·over) (Over 𝓤 H A mem run) → Triple 𝓤 (C #reader·word) (Word 𝓤 H A mem run) → Triple 𝓤 (C #reader·past) (Past 𝓤 H A mem run) → Triple 𝓤 (C #reader·position) (Position 𝓤 H A mem run) → Triple 𝓤 (C #reader·step) (Step 𝓤 H A mem run)
       → Walks 𝓤 H A next.ended stayed (WpFn 𝓤 H C Λ code.function) (next.clauses 𝓤 H A mem run)
-  next-walks C Λ fm known-over known-word known-past known-position known-stepped = walked 𝓤 H A next.ended stayed (next.clauses 𝓤 H A mem run) (WpFn 𝓤 H C Λ code.function) (λ κs. (slice-vals, (uint-vals w64, (slice-vals, (uint-vals w64, tt))))) (λ κs. (shr-slice-tells (named 0) (κs .0) u32, (uint-tells w64, (shr-slice-tells (named 1) (κs .1 .0) u8, (uint-tells w64, tt)))))
-      (λ κs qs bounds a _ are. needs 𝓤 _ _ (λ ok. walk 𝓤 H A W mem run (κs .0) (κs .1 .0) (qs .0) (qs .1 .0) (a .0) (a .1 .0) (a .1 .1 .0) (a .1 .1 .1 .0) (are .1 .0 .1) (are .1 .1 .1 .0 .1) ok C Λ fm known-over known-word known-past known-position known-stepped (are .0) (are .1 .1 .0)))
+  next-walks C Λ fm known-over known-word known-past known-position known-step = walked 𝓤 H A next.ended stayed (next.clauses 𝓤 H A mem run) (WpFn 𝓤 H C Λ code.function) (λ κs. (slice-vals, (uint-vals w64, (slice-vals, (uint-vals w64, tt))))) (λ κs. (shr-slice-tells (named 0) (κs .0) u32, (uint-tells w64, (shr-slice-tells (named 1) (κs .1 .0) u8, (uint-tells w64, tt)))))
+      (λ κs qs bounds a _ are. needs 𝓤 _ _ (λ ok. walk 𝓤 H A W mem run (κs .0) (κs .1 .0) (qs .0) (qs .1 .0) (a .0) (a .1 .0) (a .1 .1 .0) (a .1 .1 .1 .0) (are .1 .0 .1) (are .1 .1 .1 .0 .1) ok C Λ fm known-over known-word known-past known-position known-step (are .0) (are .1 .1 .0)))
 
 next-meets : {M : Type 1} (𝓤 : URA M) (H : Heap 𝓤) (A : Atoms 𝓤) (W : Given 𝓤 H A) (mem : Memory → SProp 𝓤) (run : Routine → Fun 𝓤) (𝓣 : Tables 𝓤 H)
-    → Triple 𝓤 (𝓣 .C #reader·over) (Over 𝓤 H A mem run) → Triple 𝓤 (𝓣 .C #reader·word) (Word 𝓤 H A mem run) → Triple 𝓤 (𝓣 .C #reader·past) (Past 𝓤 H A mem run) → Triple 𝓤 (𝓣 .C #reader·position) (Position 𝓤 H A mem run) → Triple 𝓤 (𝓣 .C #reader·stepped) (Stepped 𝓤 H A mem run)
+    → Triple 𝓤 (𝓣 .C #reader·over) (Over 𝓤 H A mem run) → Triple 𝓤 (𝓣 .C #reader·word) (Word 𝓤 H A mem run) → Triple 𝓤 (𝓣 .C #reader·past) (Past 𝓤 H A mem run) → Triple 𝓤 (𝓣 .C #reader·position) (Position 𝓤 H A mem run) → Triple 𝓤 (𝓣 .C #reader·step) (Step 𝓤 H A mem run)
     → Meets 𝓤 H A next.signature (WpFn 𝓤 H (𝓣 .C) (𝓣 .Λ) code.function) (next.spec 𝓤 H A mem run)
-next-meets 𝓤 H A W mem run 𝓣 known-over known-word known-past known-position known-stepped = walk-meets 𝓤 H A next.ended stayed W (goes-none-slice 𝓤 H A W 2 (0 ∷ []) tt (plain (λ _. u32)) yes, (goes-none 𝓤 H A W 2 (λ _. usize) yes (λ κs x f. refl), (goes-none-slice 𝓤 H A W 2 (1 ∷ []) tt (plain (λ _. u8)) yes, (goes-none 𝓤 H A W 2 (λ _. usize) yes (λ κs x f. refl), tt)))) (next.clauses 𝓤 H A mem run) (WpFn 𝓤 H (𝓣 .C) (𝓣 .Λ) code.function) (WpFn-mono 𝓤 H (W .laws) 𝓣 code.function)
-    (next-walks 𝓤 H A W mem run (𝓣 .C) (𝓣 .Λ) (fmOf 𝓤 H (W .laws) 𝓣) known-over known-word known-past known-position known-stepped)
+next-meets 𝓤 H A W mem run 𝓣 known-over known-word known-past known-position known-step = walk-meets 𝓤 H A next.ended stayed W (goes-none-slice 𝓤 H A W 2 (0 ∷ []) tt (plain (λ _. u32)) yes, (goes-none 𝓤 H A W 2 (λ _. usize) yes (λ κs x f. refl), (goes-none-slice 𝓤 H A W 2 (1 ∷ []) tt (plain (λ _. u8)) yes, (goes-none 𝓤 H A W 2 (λ _. usize) yes (λ κs x f. refl), tt)))) (next.clauses 𝓤 H A mem run) (WpFn 𝓤 H (𝓣 .C) (𝓣 .Λ) code.function) (WpFn-mono 𝓤 H (W .laws) 𝓣 code.function)
+    (next-walks 𝓤 H A W mem run (𝓣 .C) (𝓣 .Λ) (fmOf 𝓤 H (W .laws) 𝓣) known-over known-word known-past known-position known-step)
 
 pub next-spec : {M : Type 1} → stated.statement M
 unfolding code.routine tablesOf
@@ -306,4 +306,4 @@ next-spec 𝓤 H 𝓜 𝓖 𝓡 =
     (cited 𝓤 H (Word 𝓤 H (𝓖 .A) (𝓜 .mem) (𝓡 .run)) 𝓜 𝓡 code.env #reader·word word-def.routine code.calls-reader·word (word-thm.met 𝓤 H 𝓜 𝓖 𝓡))
     (cited 𝓤 H (Past 𝓤 H (𝓖 .A) (𝓜 .mem) (𝓡 .run)) 𝓜 𝓡 code.env #reader·past past-def.routine code.calls-reader·past (past-thm.met 𝓤 H 𝓜 𝓖 𝓡))
     (cited 𝓤 H (Position 𝓤 H (𝓖 .A) (𝓜 .mem) (𝓡 .run)) 𝓜 𝓡 code.env #reader·position position-def.routine code.calls-reader·position (position-thm.met 𝓤 H 𝓜 𝓖 𝓡))
-    (cited 𝓤 H (Stepped 𝓤 H (𝓖 .A) (𝓜 .mem) (𝓡 .run)) 𝓜 𝓡 code.env #reader·stepped stepped-def.routine code.calls-reader·stepped (stepped-thm.met 𝓤 H 𝓜 𝓖 𝓡)))
+    (cited 𝓤 H (Step 𝓤 H (𝓖 .A) (𝓜 .mem) (𝓡 .run)) 𝓜 𝓡 code.env #reader·step step-def.routine code.calls-reader·step (step-thm.met 𝓤 H 𝓜 𝓖 𝓡)))

@@ -1,0 +1,5 @@
+pub mod Shortness
+pub mod Sliced
+pub mod Framed
+pub mod TooLong
+pub mod Once

@@ -1,4 +1,0 @@
-pub mod Needs
-pub mod Framed
-pub mod TooLong
-pub mod Once

@@ -1,0 +1,197 @@
+-- One slice into its rows of the planes: which elements they are, that they lie within the buffer, and what they become. Assumes
+-- nothing.
+use mathlib.Core.Path.{_≡_, refl, sym, ap, _∙_}
+use mathlib.Core.List.{List}
+use Prim.Native.Nat.{ℕ, _+_, _-_, _*_, _≤_, _<_}
+use native.Mathlib.Omega.{arith}
+use mir.Syntax.{w64}
+use mir.Val.{Fits}
+use borrow.Author.Needs.{needs}
+use borrow.Rule.Slice.PartMut.{putMid}
+use lib.ListN.{length, getD, take, drop, length-take, length-drop}
+use Rattle.scope.specs.Geometry as geo
+use Rattle.scope.specs.Geometry.{planeCount, slicesPerPlane, sliceCount, planeWidth, planeHeight, firstRow, rowsAt, allElements, fields, rowStart}
+use Rattle.scope.specs.Layout as lay
+use Rattle.scope.specs.Layout.{planeIndex, placeInPlane, payloadOf, sliceAt}
+use Rattle.scope.specs.Lookup.{lookupIn}
+use Rattle.scope.specs.declared.Geometry.{Geometry}
+use Rattle.scope.specs.declared.SliceAt.{SliceAt}
+use Rattle.scope.specs.declared.Answer.{Answer}
+use Rattle.scope.specs.declared.Answer.the-variants.{Done}
+use Rattle.geometry.specs.Sound.{Sound}
+use Rattle.geometry.proofs.Places.{planes-most, place-in, place-room, width-fits, rows-some}
+use Rattle.layout.specs.Placed.{Placed}
+use Rattle.reader.specs.Reading.{Readable}
+use Rattle.slice.specs.Slice.{payloadIn, SliceIn, readBy, samplesBy}
+use Rattle.tables.specs.declared.Codes.{Codes}
+use Rattle.stretches.specs.Stretch as str
+use Rattle.stretches.specs.Stretch.{stretchOf}
+use Rattle.views.specs.declared.Stretch.{Stretch}
+use Rattle.views.specs.Places.{samplesAt, rowsPlaces, Rowed}
+use Rattle.views.proofs.Views.{samples-all}
+use Rattle.views.proofs.Windows.{rows-all}
+use Rattle.picture.specs.Steps as stp
+use Rattle.picture.specs.Steps.{tableLook, readAt, samplesFor, Ready, withRows}
+
+-- ---- the record of a slice
+
+module _ (frame : List ℕ) (g : Geometry) (s : ℕ) (a : SliceAt) (is : a ≡ sliceAt frame g s) where
+  pub at-number : a .number ≡ s
+  unfolding lay.sliceAt
+  at-number = rw is
+
+  pub at-plane : a .plane ≡ planeIndex frame g s
+  unfolding lay.sliceAt
+  at-plane = rw is
+
+  pub at-place : a .place ≡ placeInPlane frame g s
+  unfolding lay.sliceAt
+  at-place = rw is
+
+  pub at-first : a .first ≡ firstRow g (planeIndex frame g s) (placeInPlane frame g s)
+  unfolding lay.sliceAt
+  at-first = rw is
+
+  pub at-rows : a .rows ≡ rowsAt g (planeIndex frame g s) (placeInPlane frame g s)
+  unfolding lay.sliceAt
+  at-rows = rw is
+
+  pub at-width : a .width ≡ planeWidth g (planeIndex frame g s)
+  unfolding lay.sliceAt
+  at-width = rw is
+
+-- the rows of a place lie in its plane
+place-rows-in : (g : Geometry) (ok : Sound g) (p k : ℕ) → k < slicesPerPlane g → firstRow g p k + rowsAt g p k ≤ planeHeight g p
+unfolding geo.rowsAt
+place-rows-in g ok p k l = omega (arith, place-in g ok p k l)
+
+-- ---- its rows
+
+module _ (frame : List ℕ) (g : Geometry) (s : ℕ) (a : SliceAt) (is : a ≡ sliceAt frame g s) (pl : Placed frame g s (a .plane) (a .place)) where
+  plane-in : planeIndex frame g s < planeCount g
+  plane-in = rw (at-plane frame g s a is) at (pl .plane-below)
+
+  place-below : placeInPlane frame g s < slicesPerPlane g
+  place-below = rw (at-place frame g s a is) at (pl .place-below)
+
+  pub plane-four : a .plane < 4
+  plane-four = omega (arith, pl .plane-below, planes-most (g .family))
+
+  -- a plane's number in an array of 64-bit numbers
+  pub plane-scaled : Fits w64 (a .plane * 8)
+  plane-scaled = record { fits = omega (arith, plane-four) }
+
+  pub rows-in : Sound g → a .first + a .rows ≤ planeHeight g (a .plane)
+  rows-in ok =
+      let e : planeHeight g (a .plane) ≡ planeHeight g (planeIndex frame g s) = ap (planeHeight g) (at-plane frame g s a is) in
+      omega (arith, e, at-first frame g s a is, at-rows frame g s a is, place-rows-in g ok (planeIndex frame g s) (placeInPlane frame g s) place-below)
+
+  module _ (ok : Sound g) (r : Stretch) (er : r ≡ stretchOf g (a .plane) (a .first) (a .rows)) where
+    start-is : r .at ≡ rowStart g (a .plane) (a .first)
+    unfolding str.stretchOf
+    start-is = rw er
+
+    width-is : r .width ≡ a .width
+    unfolding str.stretchOf
+    width-is =
+        let e : planeWidth g (a .plane) ≡ planeWidth g (planeIndex frame g s) = ap (planeWidth g) (at-plane frame g s a is) in
+        rw er (e ∙ sym (at-width frame g s a is))
+
+    pitch-is : r .pitch ≡ a .width
+    unfolding str.stretchOf
+    pitch-is =
+        let e : planeWidth g (a .plane) ≡ planeWidth g (planeIndex frame g s) = ap (planeWidth g) (at-plane frame g s a is) in
+        rw er (e ∙ sym (at-width frame g s a is))
+
+    count-is : r .rows ≡ a .rows
+    unfolding str.stretchOf
+    count-is = rw er
+
+    area-is : r .rows * r .pitch ≡ a .rows * a .width
+    area-is = rw (count-is, pitch-is)
+
+    start-at : r .at ≡ rowStart g (planeIndex frame g s) (firstRow g (planeIndex frame g s) (placeInPlane frame g s))
+    start-at = start-is ∙ ap (λ (q : ℕ). rowStart g q (a .first)) (at-plane frame g s a is) ∙ ap (rowStart g (planeIndex frame g s)) (at-first frame g s a is)
+
+    area-at : a .rows * a .width ≡ rowsAt g (planeIndex frame g s) (placeInPlane frame g s) * planeWidth g (planeIndex frame g s)
+    area-at = rw (at-rows frame g s a is, at-width frame g s a is)
+
+    within : r .at + r .rows * r .pitch ≤ allElements g
+    within = omega (arith, start-at, area-is, area-at, place-room g ok (planeIndex frame g s) (placeInPlane frame g s) plane-in place-below)
+
+    -- they lie within the buffer
+    pub stretch-in : (len : ℕ) → len ≡ allElements g → r .at + r .rows * r .pitch ≤ len
+    stretch-in len el = omega (arith, within, el)
+
+    module _ (planes : List ℕ) (el : length planes ≡ allElements g) where
+      long : length (take (r .at + r .rows * r .pitch - r .at) (drop (r .at) planes)) ≡ r .rows * r .pitch
+      long =
+          let q : r .at + r .rows * r .pitch - r .at ≡ r .rows * r .pitch = omega arith in
+          rw q (simp (length-take, length-drop) (omega (arith, within, el)))
+
+      -- and are as the reading of a slice asks for them
+      pub stretch-rowed : r .rows ≤ 16384 → Rowed (length (take (r .at + r .rows * r .pitch - r .at) (drop (r .at) planes))) (a .width) (r .pitch) (a .rows)
+      stretch-rowed few = record {
+        wide = omega (arith, pitch-is);
+        some = omega (arith, at-width frame g s a is, width-fits g ok (planeIndex frame g s) .0);
+        most = omega (arith, pitch-is, at-width frame g s a is, width-fits g ok (planeIndex frame g s) .1);
+        few = omega (arith, few, count-is);
+        long = long ∙ ap (λ (n : ℕ). n * r .pitch) count-is;
+      }
+
+    -- what they become
+    module _ (xs ys zs : List ℕ) (ly : length ys ≡ length (take (r .at + r .rows * r .pitch - r .at) (drop (r .at) xs))) (el : length xs ≡ allElements g)
+        (e : samplesAt (rowsPlaces (a .width) (r .pitch) (a .rows)) ys ≡ zs) where
+      whole : ys ≡ zs
+      whole =
+          let l : length ys ≡ a .rows * a .width = ly ∙ long xs el ∙ area-is in
+          let v : samplesAt (rowsPlaces (a .width) (r .pitch) (a .rows)) ys ≡ ys =
+          ap (λ (q : ℕ). samplesAt (rowsPlaces (a .width) q (a .rows)) ys) pitch-is ∙ rw (rows-all (a .width) (a .rows)) (samples-all (a .rows * a .width) ys l) in
+          sym v ∙ e
+
+      pub stretch-put : putMid (r .at) (r .at + r .rows * r .pitch - r .at) xs ys ≡ withRows g a zs xs
+      unfolding stp.withRows
+      stretch-put =
+          let q : r .at + r .rows * r .pitch - r .at ≡ a .rows * a .width = omega (arith, area-is) in
+          rw (q, start-is, whole)
+
+-- ---- the lookup of its plane
+
+module _ (limit : ℕ) (frame : List ℕ) (g : Geometry) (workspace : List ℕ) (c : Codes) (rd : Ready limit frame g workspace c)
+    (s : ℕ) (a : SliceAt) (is : a ≡ sliceAt frame g s) (pl : Placed frame g s (a .plane) (a .place)) where
+  -- its table lies within the workspace
+  pub table-starts : (x y : ℕ) → x ≡ getD (c .from) (a .plane) 0 → y ≡ getD (c .to) (a .plane) 0 → x ≤ y
+  table-starts x y ex ey = omega (arith, ex, ey, rd .starts (a .plane) (pl .plane-below))
+
+  pub table-ends : (y : ℕ) → y ≡ getD (c .to) (a .plane) 0 → y ≤ length workspace
+  table-ends y ey = omega (arith, ey, rd .ends (a .plane) (pl .plane-below))
+
+  -- the slice passed its checks
+  pub slice-ready : s < sliceCount g → SliceIn (g .depth) frame a
+  slice-ready l = rw is (rd .slices s l)
+
+  module _ (x y m : ℕ) (ex : x ≡ getD (c .from) (a .plane) 0) (ey : y ≡ getD (c .to) (a .plane) 0) (em : m ≡ getD (c .longest) (a .plane) 0) where
+    look-is : (payload : List ℕ) → lookupIn (take (y - x) (drop x workspace)) m payload ≡ tableLook workspace c (a .plane) payload
+    unfolding stp.tableLook
+    look-is payload = rw (ex, ey, em)
+
+    -- and its words can be read
+    pub words-ready : s < sliceCount g → Readable (lookupIn (take (y - x) (drop x workspace)) m (payloadIn frame a)) limit 0 (a .rows * a .width)
+    words-ready l = rw (look-is (payloadIn frame a)) (rd .readable (a .plane) (payloadIn frame a) (a .rows * a .width) (pl .plane-below) (slice-ready l .most))
+
+    payload-at : payloadIn frame a ≡ payloadOf frame g s
+    unfolding lay.sliceAt lay.payloadOf
+    payload-at = rw is
+
+    own-look : lookupIn (take (y - x) (drop x workspace)) m (payloadIn frame a) ≡ tableLook workspace c (planeIndex frame g s) (payloadOf frame g s)
+    own-look = look-is (payloadIn frame a) ∙ ap (tableLook workspace c (a .plane)) payload-at ∙ ap (λ (q : ℕ). tableLook workspace c q (payloadOf frame g s)) (at-plane frame g s a is)
+
+    -- what it answers
+    pub answer-at : (r : Answer) → r ≡ readBy (lookupIn (take (y - x) (drop x workspace)) m (payloadIn frame a)) (g .depth) frame a → r ≡ readAt (tableLook workspace c) frame g s
+    unfolding stp.readAt
+    answer-at r e = e ∙ ap (λ (k : ℕ → _). readBy k (g .depth) frame a) own-look ∙ ap (readBy (tableLook workspace c (planeIndex frame g s) (payloadOf frame g s)) (g .depth) frame) is
+
+    -- its samples
+    pub samples-at : samplesBy (lookupIn (take (y - x) (drop x workspace)) m (payloadIn frame a)) (g .depth) (fields g) frame a ≡ samplesFor (tableLook workspace c) frame g s
+    unfolding stp.samplesFor
+    samples-at = ap (λ (k : ℕ → _). samplesBy k (g .depth) (fields g) frame a) own-look ∙ ap (samplesBy (tableLook workspace c (planeIndex frame g s) (payloadOf frame g s)) (g .depth) (fields g) frame) is

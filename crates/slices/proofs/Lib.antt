@@ -1,4 +1,0 @@
-pub mod Shortness
-pub mod Parts
-pub mod Sliced
-pub mod Once

@@ -10,10 +10,6 @@ use Rattle.buffer16.proofs.clear as clear
 use Rattle.buffer16.proofs.clear.Reads as clear-reads
 use Rattle.buffer16.proofs.clear_planes as clear-planes
 use Rattle.buffer16.proofs.clear_planes.Reads as clear-planes-reads
-use Rattle.buffer16.proofs.add as add
-use Rattle.buffer16.proofs.add.Reads as add-reads
-use Rattle.buffer16.proofs.add_rows as add-rows
-use Rattle.buffer16.proofs.add_rows.Reads as add-rows-reads
 use Rattle.buffer16.proofs.add_green as add-green
 use Rattle.buffer16.proofs.add_green.Reads as add-green-reads
 
@@ -24,14 +20,6 @@ clear-once κs a r₁ r₂ s₁ s₂ p q = p ∙ sym q
 pub clear-planes-once : (κs : Lfts 1) (a : ArgsD clear-planes.signature κs) (r₁ r₂ : ResD clear-planes.signature κs) (s₁ s₂ : AtExit clear-planes.ended κs)
     → clear-planes-reads.Post κs a r₁ s₁ → clear-planes-reads.Post κs a r₂ s₂ → now (s₁ .0) ≡ now (s₂ .0)
 clear-planes-once κs a r₁ r₂ s₁ s₂ p q = p ∙ sym q
-
-pub add-once : (κs : Lfts 1) (a : ArgsD add.signature κs) (r₁ r₂ : ResD add.signature κs) (s₁ s₂ : AtExit add.ended κs)
-    → add-reads.Post κs a r₁ s₁ → add-reads.Post κs a r₂ s₂ → now (s₁ .0) ≡ now (s₂ .0)
-add-once κs a r₁ r₂ s₁ s₂ p q = p ∙ sym q
-
-pub add-rows-once : (κs : Lfts 1) (a : ArgsD add-rows.signature κs) (r₁ r₂ : ResD add-rows.signature κs) (s₁ s₂ : AtExit add-rows.ended κs)
-    → add-rows-reads.Post κs a r₁ s₁ → add-rows-reads.Post κs a r₂ s₂ → now (s₁ .0) ≡ now (s₂ .0)
-add-rows-once κs a r₁ r₂ s₁ s₂ p q = p ∙ sym q
 
 pub add-green-once : (κs : Lfts 1) (a : ArgsD add-green.signature κs) (r₁ r₂ : ResD add-green.signature κs) (s₁ s₂ : AtExit add-green.ended κs)
     → add-green-reads.Post κs a r₁ s₁ → add-green-reads.Post κs a r₂ s₂ → now (s₁ .1 .0) ≡ now (s₂ .1 .0)

@@ -33,7 +33,7 @@ pub fn clear_planes(planes: &mut [u8])
 
 // The n samples from `from` on are added to the n from `to` on, modulo 2^depth. Both stretches lie in the one buffer, since two
 // parts of it cannot be lent at once; the first ends before the second begins.
-pub fn add(planes: &mut [u8], from: usize, to: usize, n: usize, depth: usize)
+fn add(planes: &mut [u8], from: usize, to: usize, n: usize, depth: usize)
     requires { ⌜ (from + n ≤ to) × (to + n ≤ length (now planes)) ⌝ }
     requires { ⌜ depth ≡ 8 ⌝ }
     ensures { λ _. ⌜ now (planes .exit) ≡ replaced (now (planes .entry)) to n (plus depth (part (now (planes .entry)) to n) (part (now (planes .entry)) from n)) ⌝ }
@@ -46,7 +46,7 @@ pub fn add(planes: &mut [u8], from: usize, to: usize, n: usize, depth: usize)
 }
 
 // The rows of one stretch are added to those of a later one, row by row, each stretch with its own pitch.
-pub fn add_rows(planes: &mut [u8], from: Stretch, to: Stretch, depth: usize)
+fn add_rows(planes: &mut [u8], from: Stretch, to: Stretch, depth: usize)
     requires { ⌜ Apart (length (now planes)) from to ⌝ }
     requires { ⌜ depth ≡ 8 ⌝ }
     ensures { λ _. ⌜ now (planes .exit) ≡ addedRows depth (from .at) (from .pitch) (to .at) (to .pitch) (to .width) (to .rows) (now (planes .entry)) ⌝ }

@@ -1,7 +1,6 @@
 // Document 01, "Refusal numbers", 12 to 14 of every slice before any is read (its bounds, its two bytes of prefix, that its plane has
 // words where it is coded, and its size), and 5 to 14 in the table's order. What the lengths and the workspace answer (9 to 11) comes
 // in as answers, so that an entry without a workspace has no second chain of checks. Nothing is written.
-use sides::slice_count;
 use layout::plane_index;
 use layout::slice_at;
 use preamble::check_layout;
@@ -9,6 +8,7 @@ use scope::Answer;
 use scope::Geometry;
 use scope::Place;
 use scope::SliceAt;
+use sides::slice_count;
 ghost use mathlib.Core.Path.{_≡_};
 ghost use Prim.Native.Nat.{_*_, _<_, _≤_};
 ghost use lib.Dec.{ltb};

@@ -1,11 +1,11 @@
 // Document 01, "Layout": the named readers of a frame, through which alone it is read. A byte past the frame's end reads as 0, as the
 // definitions have it, so that every reader has an answer; the checks refuse a frame that is too short before anything of it is used.
+use scope::Geometry;
+use scope::SliceAt;
 use sides::place_rows;
 use sides::plane_slice_height;
 use sides::plane_width;
 use sides::slice_count;
-use scope::Geometry;
-use scope::SliceAt;
 ghost use mathlib.Core.Path.{_≡_};
 ghost use Prim.Native.Nat.{_+_, _*_, _%_, _<_, _≤_, _^_};
 ghost use lib.Dec.{eqb};

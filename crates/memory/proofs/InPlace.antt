@@ -138,12 +138,6 @@ at-below step m h xs s i a j l = rw (at-made step xs s i a j l) (h _ _ _)
 -- ---- `swept`: the loop over the places from i on as a function, so that a function that makes one stretch of a longer loop
 -- (a row of a slice) has an equation for its contract
 
--- a sweep keeps the length
-pub swept-length : (step : Step) (s : List ℕ) (i n : ℕ) → length (swept step s i n) ≡ length s
-unfolding swept
-swept-length step s i zero = refl
-swept-length step s i (suc n) = swept-length step _ (suc i) n ∙ length-set s i _
-
 -- two steps that are the same everywhere sweep the same
 pub swept-same : (step other : Step) → ((j : ℕ) (p : List ℕ) (x : ℕ) → other j p x ≡ step j p x) → (s : List ℕ) (i n : ℕ)
     → swept other s i n ≡ swept step s i n
@@ -194,7 +188,5 @@ module _ (step : Step) (s₀ : List ℕ) (a end : ℕ) where
         let n : end - i ≡ 0 = omega arith in
         rw n at (w .due)
 
--- what the answers of a loop over a whole list search with, and those of a sweep
+-- what the answers of a loop over a whole list search with
 pub ruleset sweeps = (at-start, at-step, at-end, needs)
-
-pub ruleset stretches = (sweep-start, sweep-step, sweep-end, needs)

@@ -17,7 +17,7 @@ pub fn clear_u32(words: &mut [u32])
 }
 
 // 2^depth, the modulus of every sum. It is a shift, so that a remainder by it is a mask once it is compiled.
-pub fn modulus(depth: usize) -> u32
+fn modulus(depth: usize) -> u32
     requires { ⌜ depth ≤ 16 ⌝ }
     ensures { λ r. ⌜ r ≡ 2 ^ depth ⌝ }
 {

@@ -2,7 +2,7 @@
 -- nothing.
 use mathlib.Core.Path.{_≡_, refl, sym, ap, _∙_}
 use mathlib.Core.List.{List}
-use Prim.Native.Nat.{ℕ, _+_, _-_, _*_, _≤_, _<_}
+use Prim.Native.Nat.{ℕ, _+_, _-_, _*_, _^_, _≤_, _<_}
 use native.Mathlib.Omega.{arith}
 use mir.Syntax.{w64}
 use mir.Val.{Fits}
@@ -19,7 +19,7 @@ use Rattle.scope.specs.declared.SliceAt.{SliceAt}
 use Rattle.scope.specs.declared.Answer.{Answer}
 use Rattle.scope.specs.declared.Answer.the-variants.{Done}
 use Rattle.geometry.specs.Sound.{Sound}
-use Rattle.geometry.proofs.Places.{planes-most, place-in, place-room, width-fits, rows-some}
+use Rattle.geometry.proofs.Places.{planes-most, place-in, place-room, width-fits, height-fits}
 use Rattle.layout.specs.Placed.{Placed}
 use Rattle.reader.specs.Reading.{Readable}
 use Rattle.slice.specs.Slice.{payloadIn, SliceIn, readBy, samplesBy}
@@ -195,3 +195,36 @@ module _ (limit : ℕ) (frame : List ℕ) (g : Geometry) (workspace : List ℕ) 
     pub samples-at : samplesBy (lookupIn (take (y - x) (drop x workspace)) m (payloadIn frame a)) (g .depth) (fields g) frame a ≡ samplesFor (tableLook workspace c) frame g s
     unfolding stp.samplesFor
     samples-at = ap (λ (k : ℕ → _). samplesBy k (g .depth) (fields g) frame a) own-look ∙ ap (samplesBy (tableLook workspace c (planeIndex frame g s) (payloadOf frame g s)) (g .depth) (fields g) frame) is
+
+  -- where it starts, in bytes, fits 64 bits
+  pub table-scaled : (x : ℕ) → x ≡ getD (c .from) (a .plane) 0 → length workspace * 4 < 2 ^ 63 → Fits w64 (x * 4)
+  table-scaled x ex h = record { fits = omega (arith, ex, rd .starts (a .plane) (pl .plane-below), rd .ends (a .plane) (pl .plane-below), h) }
+
+  -- the rows' elements are numbers of 64 bits
+  module _ (r : Stretch) (er : r ≡ stretchOf g (a .plane) (a .first) (a .rows)) (l : s < sliceCount g) where
+    elements-most : r .rows * r .pitch ≤ 268435456
+    elements-most = omega (arith, area-is frame g s a is pl (rd .sound) r er, slice-ready l .most)
+
+    pub elements-fit : Fits w64 (r .rows * r .pitch)
+    elements-fit = record { fits = omega (arith, elements-most) }
+
+    pub end-fits : r .at ≤ 1073741824 → Fits w64 (r .at + r .rows * r .pitch)
+    end-fits h = record { fits = omega (arith, elements-most, h) }
+
+    few-rows : r .rows ≤ 16384
+    few-rows = omega (arith, count-is frame g s a is pl (rd .sound) r er, rows-in frame g s a is pl (rd .sound), height-fits g (rd .sound) (a .plane) .1)
+
+    -- the part that is lent
+    pub part-in : (planes : List ℕ) → length planes ≡ allElements g → r .at + r .rows * r .pitch ≤ length planes
+    part-in planes el = stretch-in frame g s a is pl (rd .sound) r er (length planes) el
+
+    pub part-rowed : (planes : List ℕ) → length planes ≡ allElements g → Rowed (length (take (r .at + r .rows * r .pitch - r .at) (drop (r .at) planes))) (a .width) (r .pitch) (a .rows)
+    part-rowed planes el = stretch-rowed frame g s a is pl (rd .sound) r er planes el few-rows
+
+    -- what it is given back as
+    pub part-put : (x y m : ℕ) → x ≡ getD (c .from) (a .plane) 0 → y ≡ getD (c .to) (a .plane) 0 → m ≡ getD (c .longest) (a .plane) 0
+        → (xs ys : List ℕ) → length xs ≡ allElements g → length ys ≡ length (take (r .at + r .rows * r .pitch - r .at) (drop (r .at) xs))
+        → samplesAt (rowsPlaces (a .width) (r .pitch) (a .rows)) ys ≡ samplesBy (lookupIn (take (y - x) (drop x workspace)) m (payloadIn frame a)) (g .depth) (fields g) frame a
+        → putMid (r .at) (r .at + r .rows * r .pitch - r .at) xs ys ≡ withRows g a (samplesFor (tableLook workspace c) frame g s) xs
+    part-put x y m ex ey em xs ys el ly e =
+        stretch-put frame g s a is pl (rd .sound) r er xs ys (samplesFor (tableLook workspace c) frame g s) ly el (e ∙ samples-at x y m ex ey em)

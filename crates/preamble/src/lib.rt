@@ -1,14 +1,14 @@
 // Document 01, "Refusal numbers", 5 to 8: whether the frame's entries and its preamble are there, and whether every plane gets its K
 // slices. Nothing is written.
 use geometry::plane_count;
-use sides::slice_count;
-use sides::slices_per_plane;
 use layout::count_byte;
 use layout::plane_index;
 use layout::preamble_end;
 use scope::Answer;
 use scope::Geometry;
 use scope::Place;
+use sides::slice_count;
+use sides::slices_per_plane;
 ghost use mathlib.Core.Path.{_≡_};
 ghost use Rattle.scope.specs.Refusals.{inOrder};
 ghost use Rattle.scope.specs.Geometry.{sliceCount};

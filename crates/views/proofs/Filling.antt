@@ -14,8 +14,8 @@ use lib.ListN.{length, take, drop, replicate, length-append, length-replicate, d
 use lib.Seq.{take-at, drop-at, drop-drop}
 use Rattle.scope.specs.Base.{part, replaced}
 use Rattle.lists.proofs.Parts.{length-part, put-keeps}
-use Rattle.views.specs.Places.{samplesAt, gapsAt, laid, howMany, rowsPlaces, Rowed}
-use Rattle.views.proofs.Views.{samples-many, samples-all, gaps-all, laid-is, laid-length, samples-laid, gaps-laid}
+use Rattle.views.specs.Places.{samplesAt, gapsAt, howMany, rowsPlaces, Rowed}
+use Rattle.views.proofs.Views.{samples-many, samples-all, gaps-all}
 use Rattle.views.proofs.Windows.{Window, window-room, window-put, window-keeps, rows-long, rows-many, row-window}
 
 -- ---- any windows, one after another
@@ -45,22 +45,11 @@ module _ (places : List Bool) (s₀ : List ℕ) where
           same = put-keeps s i (length own) ys ey (omega (arith, window-room places i own (length xs) w, in-s)) ∙ f .same;
         }
 
-    -- a window that samples are laid into
-    pub front-laid : (i : ℕ) (own : List Bool) (zs : List ℕ) → Window places i own (length xs) → length zs ≡ howMany own → Front places s₀ (replaced s i (length own) (laid own zs (part s i (length own)))) (xs ++ zs)
-    front-laid i own zs w ez =
-        let l : length (part s i (length own)) ≡ length own = length-part s i (length own) (omega (arith, window-room places i own (length xs) w, f .same)) in
-        rw (samples-laid own zs (part s i (length own)) ez (omega arith)) at
-        (front-step i own (laid own zs (part s i (length own))) w (laid-length own zs (part s i (length own)) ∙ l) (gaps-laid own zs (part s i (length own))))
-
     -- all of them
     pub front-all : howMany places ≤ length xs → samplesAt places s ≡ xs
     front-all h =
         let g : length (samplesAt places s₀) ≤ length xs = omega (arith, samples-many places s₀ room) in
         f .front ∙ rw (drop-of-length-le (samplesAt places s₀) {i = length xs} g) (append-nil xs)
-
-    -- in one equation, as an entry says it
-    pub front-end : howMany places ≤ length xs → s ≡ laid places xs s₀
-    front-end h = laid-is places xs s₀ s room (f .same) (front-all h) (f .gaps)
 
 -- ---- rows
 
@@ -121,7 +110,3 @@ module _ (w p h : ℕ) (s₀ s xs : List ℕ) (r : ℕ) (f : Fills w p h s₀ s 
       let e : r ≡ h = omega (arith, f .within) in
       let n : h * w ≡ r * w = ap (λ (x : ℕ). x * w) (sym e) in
       front-all (rowsPlaces w p h) s₀ room s xs (f .so) (omega (arith, rows-many w p h, f .long, n))
-
--- the gaps stay
-pub fills-gaps : (w p h : ℕ) (s₀ s xs : List ℕ) (r : ℕ) → Fills w p h s₀ s xs r → gapsAt (rowsPlaces w p h) s ≡ gapsAt (rowsPlaces w p h) s₀
-fills-gaps w p h s₀ s xs r f = f .so .gaps

@@ -1,5 +1,4 @@
--- The views of a buffer determine it; `laid` is the one buffer with given samples and another's gaps; with no gaps it is the samples.
--- Assumes nothing.
+-- The views of a buffer determine it; with no gaps its samples are all of it. Assumes nothing.
 use mathlib.Core.Path.{_≡_, refl, sym, ap, _∙_}
 use mathlib.Core.Bool.{Bool, true, false}
 use mathlib.Core.List.{List, [], _∷_, _++_}
@@ -7,7 +6,7 @@ use Prim.Native.Nat.{ℕ, zero, suc, _+_, _≤_}
 use native.Mathlib.Nat.{suc-inj}
 use native.Mathlib.Omega.{arith}
 use lib.ListN.{length, replicate}
-use Rattle.views.specs.Places.{samplesAt, gapsAt, laid, howMany}
+use Rattle.views.specs.Places.{samplesAt, gapsAt, howMany}
 
 head-same : {x y : ℕ} {xs ys : List ℕ} → x ∷ xs ≡ y ∷ ys → x ≡ y
 head-same e = cc
@@ -42,33 +41,6 @@ pub only-one : (places : List Bool) {a b : List ℕ} → samplesAt places a ≡ 
 only-one places {a} {b} e h =
     determined places a b (sym (views-long places a) ∙ rw (e, h) (views-long places b)) e h
 
-pub laid-length : (places : List Bool) (xs found : List ℕ) → length (laid places xs found) ≡ length found
-unfolding laid
-laid-length [] xs found = refl
-laid-length (t ∷ places) xs [] = refl
-laid-length (true ∷ places) [] (x ∷ found) = refl
-laid-length (true ∷ places) (y ∷ xs) (x ∷ found) = ap suc (laid-length places xs found)
-laid-length (false ∷ places) xs (x ∷ found) = ap suc (laid-length places xs found)
-
--- what was laid stands there
-pub samples-laid : (places : List Bool) (xs found : List ℕ) → length xs ≡ howMany places → length places ≤ length found → samplesAt places (laid places xs found) ≡ xs
-unfolding laid samplesAt howMany
-samples-laid [] [] found e h = refl
-samples-laid [] (x ∷ xs) found e h = absurd (omega arith)
-samples-laid (t ∷ places) xs [] e h = absurd (omega arith)
-samples-laid (true ∷ places) [] (x ∷ found) e h = absurd (omega arith)
-samples-laid (true ∷ places) (y ∷ xs) (x ∷ found) e h = ap (λ (z : List ℕ). y ∷ z) (samples-laid places xs found (omega arith) (omega arith))
-samples-laid (false ∷ places) xs (x ∷ found) e h = samples-laid places xs found (omega arith) (omega arith)
-
--- and the gaps are as found
-pub gaps-laid : (places : List Bool) (xs found : List ℕ) → gapsAt places (laid places xs found) ≡ gapsAt places found
-unfolding laid gapsAt
-gaps-laid [] xs found = refl
-gaps-laid (t ∷ places) xs [] = refl
-gaps-laid (true ∷ places) [] (x ∷ found) = refl
-gaps-laid (true ∷ places) (y ∷ xs) (x ∷ found) = gaps-laid places xs found
-gaps-laid (false ∷ places) xs (x ∷ found) = ap (λ (z : List ℕ). x ∷ z) (gaps-laid places xs found)
-
 -- as many samples as places
 pub samples-many : (places : List Bool) (buf : List ℕ) → length places ≤ length buf → length (samplesAt places buf) ≡ howMany places
 unfolding samplesAt howMany
@@ -76,12 +48,6 @@ samples-many [] buf h = refl
 samples-many (t ∷ places) [] h = absurd (omega arith)
 samples-many (true ∷ places) (x ∷ buf) h = omega (arith, samples-many places buf (omega arith))
 samples-many (false ∷ places) (x ∷ buf) h = omega (arith, samples-many places buf (omega arith))
-
--- so `laid` is the buffer that has these two views: both forms of a statement say the same
-pub laid-is : (places : List Bool) (xs found buf : List ℕ) → length places ≤ length found → length buf ≡ length found → samplesAt places buf ≡ xs → gapsAt places buf ≡ gapsAt places found → buf ≡ laid places xs found
-laid-is places xs found buf h l e g =
-    let n : length xs ≡ howMany places = ap length (sym e) ∙ samples-many places buf (omega arith) in
-    determined places buf (laid places xs found) (l ∙ sym (laid-length places xs found)) (e ∙ sym (samples-laid places xs found n h)) (g ∙ sym (gaps-laid places xs found))
 
 -- ---- no gaps: today's statement
 
@@ -103,15 +69,6 @@ gaps-all zero [] e = refl
 gaps-all zero (x ∷ buf) e = absurd (omega arith)
 gaps-all (suc n) [] e = refl
 gaps-all (suc n) (x ∷ buf) e = gaps-all n buf (suc-inj e)
-
-pub laid-all : (n : ℕ) (xs found : List ℕ) → length xs ≡ n → length found ≡ n → laid (replicate n true) xs found ≡ xs
-unfolding laid
-laid-all zero [] [] e h = refl
-laid-all zero (x ∷ xs) found e h = absurd (omega arith)
-laid-all zero [] (x ∷ found) e h = absurd (omega arith)
-laid-all (suc n) [] found e h = absurd (omega arith)
-laid-all (suc n) (x ∷ xs) [] e h = absurd (omega arith)
-laid-all (suc n) (x ∷ xs) (y ∷ found) e h = ap (λ (z : List ℕ). x ∷ z) (laid-all n xs found (suc-inj e) (suc-inj h))
 
 -- ---- one after another
 

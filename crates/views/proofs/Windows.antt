@@ -141,18 +141,6 @@ trues-window len a n h =
       many = many-all a;
     }
 
--- n rows from row a on
-pub rows-window : (w p h a n : ℕ) → w ≤ p → a + n ≤ h → Window (rowsPlaces w p h) (a * p) (rowsPlaces w p n) (a * w)
-rows-window w p h a n l r =
-    let e : h ≡ a + (n + (h - (a + n))) = omega arith in
-    record {
-      before = rowsPlaces w p a;
-      after = rowsPlaces w p (h - (a + n));
-      is = ap (rowsPlaces w p) e ∙ rows-append w p a (n + (h - (a + n))) ∙ ap (λ (z : List Bool). rowsPlaces w p a ++ z) (rows-append w p n (h - (a + n)));
-      long = rows-long w p a l;
-      many = rows-many w p a;
-    }
-
 -- the samples of row r
 pub row-window : (w p h r : ℕ) → w ≤ p → r < h → Window (rowsPlaces w p h) (r * p) (replicate w true) (r * w)
 unfolding rowsPlaces

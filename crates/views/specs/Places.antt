@@ -1,5 +1,5 @@
 -- The places of a buffer, in its order: true where a sample stands, false in a gap between a row's end and the next row. Two views of
--- a buffer by its places, and a buffer made of samples and of another buffer's gaps. Assumes nothing.
+-- a buffer by its places. Assumes nothing.
 use mathlib.Core.Path.{_≡_}
 use Prim.Native.Nat.{ℕ, zero, suc, _+_, _-_, _*_, _≤_, _<_}
 use mathlib.Core.Bool.{Bool, true, false}
@@ -22,14 +22,6 @@ gapsAt [] buffer = buffer
 gapsAt (t ∷ places) [] = []
 gapsAt (true ∷ places) (x ∷ buffer) = gapsAt places buffer
 gapsAt (false ∷ places) (x ∷ buffer) = x ∷ gapsAt places buffer
-
--- the buffer with samples laid into its places, and all else as found
-unfoldable pub laid : List Bool → List ℕ → List ℕ → List ℕ
-laid [] samples found = found
-laid (t ∷ places) samples [] = []
-laid (true ∷ places) [] (x ∷ found) = x ∷ found
-laid (true ∷ places) (y ∷ samples) (x ∷ found) = y ∷ laid places samples found
-laid (false ∷ places) samples (x ∷ found) = x ∷ laid places samples found
 
 -- how many samples places hold
 unfoldable pub howMany : List Bool → ℕ

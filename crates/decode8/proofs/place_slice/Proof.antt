@@ -1,0 +1,108 @@
+use native.Mathlib.Omega.{arith}
+use borrow.Author.Needs.{needs}
+use Rattle.decode8.proofs.place_slice.Statement.{statement}
+use Rattle.decode8.proofs.place_slice.Tie as tie
+use Rattle.decode8.proofs.place_slice.Reads as reads
+use Rattle.decode8.proofs.place_slice.Lts as lts
+use Rattle.slice8.proofs.slice.Reads as slice-reads
+use Rattle.stretches.proofs.stretch_of.Reads as stretch-of-reads
+
+-- src/lib.rt:38:9
+stretch-of-requires : tie.Need-stretch-of-requires
+stretch-of-requires c κs = search needs
+
+-- src/lib.rt:40:20
+mul-end : tie.Need-mul-end
+mul-end c = search needs
+
+-- src/lib.rt:40:15
+add-end : tie.Need-add-end
+add-end c = search needs
+
+-- src/lib.rt:41:16
+mul-from : tie.Need-mul-from
+mul-from c = search needs
+
+-- src/lib.rt:41:16
+element-copy-out-from : tie.Need-element-copy-out-from
+element-copy-out-from c = search needs
+
+-- src/lib.rt:42:14
+mul-to : tie.Need-mul-to
+mul-to c = search needs
+
+-- src/lib.rt:42:14
+element-copy-out-to : tie.Need-element-copy-out-to
+element-copy-out-to c = search needs
+
+-- src/lib.rt:48:9
+mul-slice : tie.Need-mul-slice
+mul-slice c = search needs
+
+-- src/lib.rt:48:9
+sub-slice : tie.Need-sub-slice
+sub-slice c = search needs
+
+-- src/lib.rt:48:9
+part-slice-start : tie.Need-part-slice-start
+part-slice-start c = search needs
+
+-- src/lib.rt:48:9
+part-slice-end : tie.Need-part-slice-end
+part-slice-end c = search needs
+
+-- src/lib.rt:49:9
+mul-slice-2 : tie.Need-mul-slice-2
+mul-slice-2 c = search needs
+
+-- src/lib.rt:49:9
+element-copy-out-slice : tie.Need-element-copy-out-slice
+element-copy-out-slice c = search needs
+
+-- src/lib.rt:50:9
+sub-slice-2 : tie.Need-sub-slice-2
+sub-slice-2 c = search needs
+
+-- src/lib.rt:50:9
+part-slice-start-2 : tie.Need-part-slice-start-2
+part-slice-start-2 c = search needs
+
+-- src/lib.rt:50:9
+part-slice-end-2 : tie.Need-part-slice-end-2
+part-slice-end-2 c = search needs
+
+-- src/lib.rt:43:5
+slice-requires : tie.Need-slice-requires
+slice-requires c κs = search needs
+
+-- src/lib.rt:22:1
+same-length : tie.Need-same-length
+same-length c = search needs
+
+-- src/lib.rt:22:1
+returns : tie.Need-returns
+returns c = search needs
+
+pub place-slice-spec : {M : Type 1} → statement M
+place-slice-spec =
+    tie.close
+    (tie.spec
+    stretch-of-requires
+    mul-end
+    add-end
+    mul-from
+    element-copy-out-from
+    mul-to
+    element-copy-out-to
+    mul-slice
+    sub-slice
+    part-slice-start
+    part-slice-end
+    mul-slice-2
+    element-copy-out-slice
+    sub-slice-2
+    part-slice-start-2
+    part-slice-end-2
+    slice-requires
+    same-length
+    returns)

@@ -5,6 +5,7 @@ use mathlib.Core.List.{List, [], _∷_, _++_}
 use Prim.Native.Nat.{ℕ, zero, suc, _+_, _*_, _≤_, _<_}
 use native.Mathlib.Numerals.{add-one}
 use native.Mathlib.Omega.{arith}
+use borrow.Author.Needs.{needs}
 use lib.ListN.{length, getD, set}
 use Rattle.scope.specs.Base.{replaced}
 use Rattle.scope.specs.Refusals.{inOrder}
@@ -22,7 +23,9 @@ use Rattle.geometry.specs.Places.{filled}
 use Rattle.geometry.proofs.Places.{order, place-room, place-starts, filled-none, filled-next, filled-most, filled-all}
 use Rattle.layout.specs.Placed.{Placed}
 use Rattle.layout.proofs.Slices.{named-here, named-other, named-all}
-use Rattle.layout.proofs.Going.{Going, going-start, going-last, going-done, going-placed, going-step, going-refused}
+use Rattle.layout.proofs.Going.{Going, going-start, going-last, going-done, going-placed, going-four, going-scaled, going-fits, going-step, going-refused}
+use mir.Syntax.{w64}
+use mir.Val.{Fits}
 use Rattle.scope.specs.Frame.{indexCheck}
 use Rattle.lists.proofs.Parts.{put-length}
 use Rattle.planes.specs.Standing.{Planes}
@@ -112,6 +115,33 @@ module _ (look : Look) (frame : List ℕ) (g : Geometry) (t : ℕ) where
     pub reading-planes : Sound g → t ≤ s → Planes g (planeOf (samplesFor look frame g) frame g) buf
     reading-planes ok h = filled-planes (samplesFor look frame g) frame g s buf (w .filled) (readAt look frame g) t seen (w .going) ok h
 
+    -- slice s names a plane, and its place there was counted
+    module _ (p : ℕ) (ls : s < t) (ei : p ≡ planeIndex frame g s) where
+      pub reading-at : Placed frame g s p (getD seen p 0)
+      reading-at = going-placed (readAt look frame g) frame g t seen s (w .going) p ls ei
+
+      pub reading-four : p < 4
+      reading-four = going-four (readAt look frame g) frame g t seen s (w .going) p ls ei
+
+      pub reading-scaled : Fits w64 (p * 8)
+      reading-scaled = going-scaled (readAt look frame g) frame g t seen s (w .going) p ls ei
+
+      pub reading-fits : Sound g → Fits w64 (getD seen p 0 + 1)
+      reading-fits ok = going-fits (readAt look frame g) frame g t seen s (w .going) p ls ei ok
+
+      module _ (a : SliceAt) (is : a ≡ sliceAt frame g s) where
+        -- its record is that of the slice whose number it has
+        pub reading-own : a ≡ sliceAt frame g (a .number)
+        reading-own = is ∙ ap (sliceAt frame g) (sym (at-number frame g s a is))
+
+        pub reading-below : a .number < sliceCount g
+        reading-below = omega (arith, at-number frame g s a is, ls, w .going .slices-are)
+
+        pub reading-placed : Placed frame g (a .number) (a .plane) (a .place)
+        unfolding lay.placeInPlane
+        reading-placed =
+            rw (at-number frame g s a is, at-plane frame g s a is ∙ sym ei, at-place frame g s a is ∙ sym (ap (λ (q : ℕ). namedBefore frame g q s) ei) ∙ sym (reading-at .place)) reading-at
+
     -- one of them: slice s, whose record is a
     module _ (p : ℕ) (ls : s < t) (ei : p ≡ planeIndex frame g s) (a : SliceAt) (is : a ≡ sliceAt frame g s) (r : Answer) (er : r ≡ readAt look frame g (a .number)) where
       own : r ≡ readAt look frame g s
@@ -144,3 +174,5 @@ module _ (look : Look) (frame : List ℕ) (g : Geometry) (t : ℕ) where
               (at-first frame g s a is ∙ sym (ap (firstRow g p) place-is ∙ ap (λ (q : ℕ). firstRow g q (placeInPlane frame g s)) ei))
               (at-rows frame g s a is ∙ sym (ap (rowsAt g p) place-is ∙ ap (λ (q : ℕ). rowsAt g q (placeInPlane frame g s)) ei))
               (at-width frame g s a is ∙ sym (ap (planeWidth g) ei))
+
+pub ruleset readings = (reading-start, reading-four, reading-scaled, reading-fits, needs)

@@ -223,8 +223,8 @@ module _ (limit : ℕ) (frame : List ℕ) (g : Geometry) (workspace : List ℕ) 
 
     -- what it is given back as
     pub part-put : (x y m : ℕ) → x ≡ getD (c .from) (a .plane) 0 → y ≡ getD (c .to) (a .plane) 0 → m ≡ getD (c .longest) (a .plane) 0
-        → (xs ys : List ℕ) → length xs ≡ allElements g → length ys ≡ length (take (r .at + r .rows * r .pitch - r .at) (drop (r .at) xs))
-        → samplesAt (rowsPlaces (a .width) (r .pitch) (a .rows)) ys ≡ samplesBy (lookupIn (take (y - x) (drop x workspace)) m (payloadIn frame a)) (g .depth) (fields g) frame a
-        → putMid (r .at) (r .at + r .rows * r .pitch - r .at) xs ys ≡ withRows g a (samplesFor (tableLook workspace c) frame g s) xs
-    part-put x y m ex ey em xs ys el ly e =
-        stretch-put frame g s a is pl (rd .sound) r er xs ys (samplesFor (tableLook workspace c) frame g s) ly el (e ∙ samples-at x y m ex ey em)
+        → (o : Answer) (xs ys : List ℕ) → length xs ≡ allElements g → length ys ≡ length (take (r .at + r .rows * r .pitch - r .at) (drop (r .at) xs))
+        → (o ≡ Done → samplesAt (rowsPlaces (a .width) (r .pitch) (a .rows)) ys ≡ samplesBy (lookupIn (take (y - x) (drop x workspace)) m (payloadIn frame a)) (g .depth) (fields g) frame a)
+        → o ≡ Done → putMid (r .at) (r .at + r .rows * r .pitch - r .at) xs ys ≡ withRows g a (samplesFor (tableLook workspace c) frame g s) xs
+    part-put x y m ex ey em o xs ys el ly e d =
+        stretch-put frame g s a is pl (rd .sound) r er xs ys (samplesFor (tableLook workspace c) frame g s) ly el (e d ∙ samples-at x y m ex ey em)

@@ -1,3 +1,9 @@
+use mathlib.Core.Path.{_≡_}
+use Prim.Native.Nat.{_-_}
+use lib.ListN.{length}
+use Rattle.picture.specs.Steps.{tableLook}
+use Rattle.picture.proofs.Filling.{Reading, readings, reading-start, reading-at, filled-long, reading-own, reading-below, reading-placed, reading-step, reading-refused, reading-done, reading-planes}
+use Rattle.picture.proofs.Entry.{no-planes}
 use borrow.Author.Needs.{needs}
 use native.Mathlib.Omega.{arith}
 use Rattle.decode8.proofs.read_slices.Statement.{statement}
@@ -10,10 +16,10 @@ use Rattle.layout.proofs.slice_at.Reads as slice-at-reads
 use Rattle.sides.proofs.slice_count.Reads as slice-count-reads
 
 abbrev Inv-loop : tie.InvT-loop
-Inv-loop frame g workspace codes planes₀ t seen₀ s₀ planes seen s = ?
+Inv-loop frame g workspace codes planes₀ t seen₀ s₀ planes seen s = Reading (tableLook workspace codes) frame g t seen s planes × (length planes ≡ length planes₀)
 
 abbrev μ-loop : tie.MeasureT-loop
-μ-loop frame g workspace codes planes₀ t seen₀ s₀ planes seen s = ?
+μ-loop frame g workspace codes planes₀ t seen₀ s₀ planes seen s = t - s
 
 -- src/lib.rt:67:9
 slice-count-requires : tie.Need-slice-count-requires Inv-loop μ-loop
@@ -21,7 +27,7 @@ slice-count-requires c κs = search needs
 
 -- src/lib.rt:70:5
 loop-holds : tie.Need-loop-holds Inv-loop μ-loop
-loop-holds c = search needs
+loop-holds c = (search reading-start, search needs)
 
 -- src/lib.rt:71:13
 plane-index-requires : tie.Need-plane-index-requires Inv-loop μ-loop
@@ -29,19 +35,19 @@ plane-index-requires c κs = search needs
 
 -- src/lib.rt:72:17
 mul-k : tie.Need-mul-k Inv-loop μ-loop
-mul-k c = search needs
+mul-k c = search readings
 
 -- src/lib.rt:72:17
 array-read-k : tie.Need-array-read-k Inv-loop μ-loop
-array-read-k c = search needs
+array-read-k c = search readings
 
 -- src/lib.rt:73:13
 slice-at-requires : tie.Need-slice-at-requires Inv-loop μ-loop
-slice-at-requires c κs = search needs
+slice-at-requires c κs = (search needs, (search needs, search reading-at))
 
 -- src/lib.rt:74:13
 place-slice-requires : tie.Need-place-slice-requires Inv-loop μ-loop
-place-slice-requires c κs = search needs
+place-slice-requires c κs = (search needs, ((search reading-own, search reading-below), (search reading-placed, (search needs, search needs))))
 
 -- src/lib.rt:77:27
 enum-told : tie.Need-enum-told Inv-loop μ-loop
@@ -49,15 +55,15 @@ enum-told c = search needs
 
 -- src/lib.rt:77:27
 add-seen : tie.Need-add-seen Inv-loop μ-loop
-add-seen c = search needs
+add-seen c = search readings
 
 -- src/lib.rt:77:17
 mul-seen : tie.Need-mul-seen Inv-loop μ-loop
-mul-seen c = search needs
+mul-seen c = search readings
 
 -- src/lib.rt:77:17
 array-write-seen : tie.Need-array-write-seen Inv-loop μ-loop
-array-write-seen c = search needs
+array-write-seen c = search readings
 
 -- src/lib.rt:78:17
 add-s : tie.Need-add-s Inv-loop μ-loop
@@ -69,7 +75,19 @@ loop-less c = search needs
 
 -- src/lib.rt:70:5
 loop-again : tie.Need-loop-again Inv-loop μ-loop
-loop-again c = search needs
+loop-again c =
+    let known = c .before .before in
+    let placed = known .before .before in
+    let made = placed .before .before in
+    let named = made .before in
+    let tested = named .before in
+    let turn = tested .before in
+    let counted = turn .before in
+    let lent = counted .before .before in
+    let entry = lent .before .before in (
+      reading-step _ _ _ _ _ _ _ (turn .loop .inv .0) _ (tested .loop-test .taken) (named .plane-index .ensures) _ (made .slice-at .ensures .0) _ (placed .place-slice .ensures .0) (entry .pre .0 .sound) _ (search needs) (placed .place-slice .ensures .1) (search needs),
+      search needs,
+    )
 
 -- src/lib.rt:80:29
 enum-known-r : tie.Need-enum-known-r Inv-loop μ-loop
@@ -81,7 +99,7 @@ same-length c = search needs
 
 -- src/lib.rt:80:38
 returns : tie.Need-returns Inv-loop μ-loop
-returns c = search needs
+returns c = (search reading-refused, λ e. search no-planes)
 
 -- src/lib.rt:55:1
 same-length-2 : tie.Need-same-length-2 Inv-loop μ-loop
@@ -89,7 +107,7 @@ same-length-2 c = search needs
 
 -- src/lib.rt:55:1
 returns-2 : tie.Need-returns-2 Inv-loop μ-loop
-returns-2 c = search needs
+returns-2 c = (search reading-done, λ e. search reading-planes)
 
 pub read-slices-spec : {M : Type 1} → statement M
 read-slices-spec =

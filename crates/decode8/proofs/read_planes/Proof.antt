@@ -1,0 +1,53 @@
+use native.Mathlib.Omega.{arith}
+use borrow.Author.Needs.{needs}
+use Rattle.decode8.proofs.read_planes.Statement.{statement}
+use Rattle.decode8.proofs.read_planes.Tie as tie
+use Rattle.decode8.proofs.read_planes.Reads as reads
+use Rattle.decode8.proofs.read_planes.Lts as lts
+use Rattle.buffer8.proofs.add_green.Reads as add-green-reads
+use Rattle.decode8.proofs.read_slices.Reads as read-slices-reads
+
+-- src/lib.rt:99:9
+read-slices-requires : tie.Need-read-slices-requires
+read-slices-requires c κs = search needs
+
+-- src/lib.rt:101:25
+enum-known-a : tie.Need-enum-known-a
+enum-known-a c = search needs
+
+-- src/lib.rt:103:35
+enum-told : tie.Need-enum-told
+enum-told c = search needs
+
+-- src/lib.rt:103:13
+add-green-requires : tie.Need-add-green-requires
+add-green-requires c κs = search needs
+
+-- src/lib.rt:87:1
+same-length : tie.Need-same-length
+same-length c = search needs
+
+-- src/lib.rt:87:1
+returns : tie.Need-returns
+returns c = search needs
+
+-- src/lib.rt:87:1
+same-length-2 : tie.Need-same-length-2
+same-length-2 c = search needs
+
+-- src/lib.rt:87:1
+returns-2 : tie.Need-returns-2
+returns-2 c = search needs
+
+pub read-planes-spec : {M : Type 1} → statement M
+read-planes-spec =
+    tie.close
+    (tie.spec
+    read-slices-requires
+    enum-known-a
+    enum-told
+    add-green-requires
+    same-length
+    returns
+    same-length-2
+    returns-2)

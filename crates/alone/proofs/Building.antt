@@ -8,7 +8,6 @@ use mathlib.Core.List.{List, _++_}
 use mathlib.Core.Bool.{true, false}
 use lib.Dec.{ltb}
 use lib.ListN.{length, drop}
-use borrow.Author.Needs.{needs}
 use borrow.Author.Tests.{lt-ltb, le-ltb, le-leb, ltb-false}
 use Rattle.scope.specs.Base.{replaced}
 use Rattle.scope.specs.Refusals.{leftBy}
@@ -134,8 +133,6 @@ module _ (ls workspace : List ℕ) where
             workspace = f ∙ ap (λ (k : ℕ). tableOf ls ++ drop k workspace) part-size ∙ rw g refl;
           }
 
-pub ruleset building = (build-4, build-refused, build-11, part-small, part-full, part-longest, part-size, build-done, needs)
-
 -- ---- what `build_table` gives, case by case
 
 no-table : (n m : ℕ) (p : Place) → built.Table m ≡ built.Refused n p → ⊥
@@ -174,8 +171,6 @@ module _ (ls workspace : List ℕ) (o : Built) (workspace₁ : List ℕ) (b : Bu
     -- with the longest length
     pub told-longest : m ≡ longest ls
     told-longest = by-table (buildAnswer ls (length workspace)) m (longest ls) (sym e ∙ b .answer) .1
-
-pub ruleset told = (told-refused, told-table, needs)
 
 -- ---- what an answer says of the lengths
 

@@ -8,7 +8,6 @@ use lib.Dec.{leb}
 use lib.ListN.{length, take, drop, replicate}
 use lib.Seq.{take-at}
 use borrow.Author.Tests.{lt-ltb, le-ltb, le-leb}
-use borrow.Author.Needs.{needs}
 use Rattle.scope.specs.Base.{zeros}
 use Rattle.scope.specs.Refusals.{_andThen_, leftBy}
 use Rattle.scope.specs.Words.{longest, need, wordAt, Chain, symbols, stuckAt, chainBy, chain}
@@ -138,5 +137,3 @@ module _ (ls payload workspace samples : List ℕ) where
           where
             e : readAnswer ls payload (length samples) (length workspace) ≡ readable 0 (chain ls payload 0 (length samples))
             e = after Done is-done
-
-pub ruleset readings = (read-end, read-stuck, read-4, read-refused, read-asked, read-table, needs)

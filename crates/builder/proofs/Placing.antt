@@ -13,7 +13,6 @@ use lib.Dec.{eqb}
 use lib.Pow.{pow-pos}
 use lib.ListN.{length, take, getD, set, length-set}
 use lib.Seq.{getD-set-same, getD-set-other}
-use borrow.Author.Needs.{needs}
 use Rattle.scope.specs.Base.{one, count}
 use Rattle.scope.specs.Words.{longest, lengthOf, wordOf, first, heads}
 use Rattle.scope.specs.Lookup.{packed, wordIn}
@@ -53,8 +52,6 @@ module _ (m l s w n : ℕ) (r : WordSlots m l s w n) (k b : ℕ) (ek : k ≡ slo
       → StretchWritten ws (b + w * (1 * 2 ^ (k - l) % 2 ^ 64)) (1 * 2 ^ (k - l) % 2 ^ 64) (s * 256 + l) ws′
       → StretchWritten ws (slotBase l + w * 2 ^ (slotBits m l - l)) (2 ^ (slotBits m l - l)) (s * 256 + l) ws′
   put-written ws ws′ f = subst₂ (λ (x y : ℕ). StretchWritten ws x y (s * 256 + l) ws′) from-is size-is f
-
-pub ruleset putting = (put-room, put-product, put-start, put-written, needs)
 
 -- ---- one part of the table: n slots of k bits, from `base` on
 
@@ -244,5 +241,3 @@ pub placed-end : (ls : List ℕ) (m : ℕ) (ws next : List ℕ) (s : ℕ) → Wo
 placed-end ls m ws next s p h =
     let e : s ≡ length ls = omega (arith, p .within) in
     subst (λ (x : ℕ). Slotted ls ws x) e (p .slotted)
-
-pub ruleset placing = (placed-start, length-fits, length-below, length-offset, placed-skip, placed-row, word-fits-32, placed-put, placed-end, needs)

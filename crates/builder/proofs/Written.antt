@@ -8,7 +8,6 @@ use mathlib.Core.Bool.{false}
 use mathlib.Core.List.{List}
 use lib.ListN.{length, getD}
 use lib.Seq.{ext-getD}
-use borrow.Author.Needs.{needs}
 use Rattle.scope.specs.Base.{replaced}
 use Rattle.scope.specs.Words.{longest, headBelow, heads, first}
 use Rattle.scope.specs.Lookup.{packed, wordIn, firstPart, tableOf}
@@ -89,5 +88,3 @@ module _ (ls : List ℕ) (m : ℕ) (ws firsts ws₁ : List ℕ) (ok : Ready ls m
 -- what is left of the whole
 pub part-written : (ls workspace ws′ : List ℕ) (from n : ℕ) → ws′ ≡ tableOf ls → replaced workspace from n ws′ ≡ replaced workspace from n (tableOf ls)
 part-written ls workspace ws′ from n e = ap (replaced workspace from n) e
-
-pub ruleset writing = (marks-room, written, part-written, needs)

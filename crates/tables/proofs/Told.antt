@@ -16,6 +16,7 @@ use Rattle.scope.specs.Lookup.{tableOf}
 use Rattle.scope.specs.Frame as frm
 use Rattle.scope.specs.Frame.{lengthCheck, needOfAll}
 use Rattle.scope.specs.declared.Geometry.{Geometry}
+use Rattle.scope.specs.declared.Place.the-variants.{Plane}
 use Rattle.scope.specs.declared.Answer.{Answer}
 use Rattle.scope.specs.declared.Answer.the-variants.{Done, Refused}
 use Rattle.words.proofs.Shortness.{shortest-most}
@@ -32,11 +33,15 @@ use Rattle.tables.proofs.Arrays.{per-four, per-at}
 module _ (g : Geometry) (lengths : List ℕ) (p : ℕ) where
   pub plane-short : Done ≡ lengthCheck g lengths p → longest (lengthsOf g lengths p) ≤ 18
   unfolding frm.lengthCheck wrd.tooLong
-  plane-short e = ltb-false _ _ (both-passed (tooLong (lengthsOf g lengths p)) (overfull (lengthsOf g lengths p)) 9 10 _ _ e .0)
+  plane-short e =
+      ltb-false 18 (longest (lengthsOf g lengths p))
+      (both-passed (tooLong (lengthsOf g lengths p)) (overfull (lengthsOf g lengths p)) 9 10 (Plane p) (Plane p) e .0)
 
   pub plane-full : Done ≡ lengthCheck g lengths p → shares (lengthsOf g lengths p) ≤ 262144
   unfolding frm.lengthCheck wrd.overfull
-  plane-full e = ltb-false _ _ (both-passed (tooLong (lengthsOf g lengths p)) (overfull (lengthsOf g lengths p)) 9 10 _ _ e .1)
+  plane-full e =
+      ltb-false 262144 (shares (lengthsOf g lengths p))
+      (both-passed (tooLong (lengthsOf g lengths p)) (overfull (lengthsOf g lengths p)) 9 10 (Plane p) (Plane p) e .1)
 
 -- ---- the codes by their answer
 
@@ -48,22 +53,22 @@ module _ (g : Geometry) (lengths : List ℕ) where
 
   by-from : (a : Answer) → length (codesBy g lengths a .from) ≡ 4
   unfolding codesBy codesUpTo noCodes
-  by-from Done = per-four _ _
+  by-from Done = per-four (planeCount g) (tableStart g lengths)
   by-from (Refused n p) = refl
 
   by-to : (a : Answer) → length (codesBy g lengths a .to) ≡ 4
   unfolding codesBy codesUpTo noCodes
-  by-to Done = per-four _ _
+  by-to Done = per-four (planeCount g) (λ p. tableStart g lengths (suc p))
   by-to (Refused n p) = refl
 
   by-longest : (a : Answer) → length (codesBy g lengths a .longest) ≡ 4
   unfolding codesBy codesUpTo noCodes
-  by-longest Done = per-four _ _
+  by-longest Done = per-four (planeCount g) (λ p. longest (lengthsOf g lengths p))
   by-longest (Refused n p) = refl
 
   by-shortest : (a : Answer) → length (codesBy g lengths a .shortest) ≡ 4
   unfolding codesBy codesUpTo noCodes
-  by-shortest Done = per-four _ _
+  by-shortest Done = per-four (planeCount g) (λ p. shortest (lengthsOf g lengths p))
   by-shortest (Refused n p) = refl
 
 -- ---- c is the codes of g and lengths

@@ -6,7 +6,6 @@ use Prim.Native.Nat.{ℕ, suc, _+_, _-_, _*_, _^_, _≤_, _<_}
 use native.Mathlib.Nat.{suc-mul}
 use native.Mathlib.Numerals.{add-one}
 use native.Mathlib.Omega.{arith}
-use borrow.Author.Needs.{needs}
 use lib.ListN.{take, drop}
 use Rattle.scope.specs.Base as base
 use Rattle.scope.specs.Base.{sumBelow}
@@ -23,7 +22,7 @@ use Rattle.words.specs.declared.Weighed.{Weighed}
 use Rattle.words.specs.declared.Weighed.the-variants as weight
 use Rattle.words.proofs.Weighing.{code-passes, code-longest, code-shortest, code-need, weighed-check}
 use Rattle.geometry.proofs.Places.{planes-most}
-use Rattle.geometry.proofs.Lengths.{part-is, part-room, part-start-fits, part-end-fits, part-few}
+use Rattle.geometry.proofs.Lengths.{part-is}
 use Rattle.refusals.proofs.InOrder.{none-yet, one-passed, one-refused}
 use Rattle.tables.specs.Tables.{planeNeed, tableStart}
 use Rattle.tables.specs.Codes.{noCodes, withCode, codesUpTo, codesBy, codesOf}
@@ -36,8 +35,6 @@ use Rattle.tables.proofs.Arrays.{per-start, per-more}
 pub weighed-part : (g : Geometry) (lengths : List ℕ) (p n : ℕ) (w : Weighed) → n ≡ 2 ^ g .depth
     → w ≡ weighed (take (p * n + n - p * n) (drop (p * n) lengths)) p → w ≡ weighed (lengthsOf g lengths p) p
 weighed-part g lengths p n w en e = e ∙ ap (λ (l : List ℕ). weighed l p) (part-is g lengths p n en)
-
-pub ruleset weighs = (part-start-fits, part-end-fits, part-room, part-few, weighed-part, needs)
 
 -- ---- codes that agree in every field
 

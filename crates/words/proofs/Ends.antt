@@ -7,7 +7,6 @@ use native.Mathlib.Decide.{ℕ-discrete}
 use native.Mathlib.Omega.{arith}
 use mathlib.Core.List.{List}
 use lib.ListN.{getD}
-use borrow.Author.Needs.{needs}
 use borrow.Author.Tests.{eq-eqb, ne-eqb}
 use Rattle.scope.specs.Base.{count}
 use Rattle.scope.specs.Words.{longest, shortest}
@@ -107,8 +106,6 @@ module _ (xs : List ℕ) where
     up-end h =
         let e : 19 - l ≡ 0 = omega arith in
         sym (ap (lowest xs l) e) ∙ u .same
-
-pub ruleset ends = (down-start, down-found, down-step, down-end, up-start, up-found, up-step, up-end, needs)
 
 -- ---- they are the longest and the shortest length
 

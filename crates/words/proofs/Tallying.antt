@@ -12,7 +12,6 @@ use mir.Val.{Fits}
 use lib.Dec.{eqb}
 use lib.ListN.{length, take, getD, set, length-set, replicate, getD-replicate}
 use lib.Seq.{getD-set-same, getD-set-other, take-all, length-take-le}
-use borrow.Author.Needs.{needs}
 use borrow.Author.Tests.{lt-ltb, le-ltb}
 use Rattle.scope.specs.Base.{one, count}
 use Rattle.scope.specs.Words.{longest, tooLong}
@@ -78,8 +77,6 @@ module _ (ls counts : List ℕ) (i : ℕ) (h : length ls ≤ i) (k : Counted ls 
   counted-end =
       listBelow-only (λ l. count l ls) 19 counts (k .many)
       (λ l b. k .counted l (omega arith) ∙ ap (count l) (take-all i ls h))
-
-pub ruleset counting = (counted-start, counted-fits, counted-step, counted-long, counted-short, counted-end, needs)
 
 -- element l is how many symbols have length l
 pub counts-at : (ls : List ℕ) (l : ℕ) → l ≤ 18 → getD (countsOf ls) l 0 ≡ count l ls

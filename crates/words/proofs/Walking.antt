@@ -10,7 +10,6 @@ use mathlib.Core.Bool.{true, false, not, true≢false}
 use lib.Arith.{sub-sub-self}
 use lib.ListN.{length, getD, set, length-set, replicate}
 use lib.Seq.{getD-set-same, getD-set-other, ext-getD}
-use borrow.Author.Needs.{needs}
 use Rattle.scope.specs.Base.{count, listFrom}
 use Rattle.scope.specs.Words.{longest, shares, overfull, first}
 use Rattle.memory.proofs.Powers.{shl-one}
@@ -167,8 +166,6 @@ module _ (counts : List ℕ) (m : ℕ) (at : List ℕ) (a l : ℕ) (small : m �
         room = λ ls t. sym (ap not (walk-fits ls counts at m a l t (w .walked ls t) e));
         starts = λ ls t _. walk-firsts ls counts at m a l t (w .walked ls t) e;
       }
-
-pub ruleset walking = (walks-start, walks-refused, walks-step, walks-end, needs)
 
 -- ---- what is there
 

@@ -1,5 +1,5 @@
 -- `read_built` reads by a table that is built, and clears (document 01, "Words and lookup").
-use Rattle.alone.proofs.Reading.{readings}
+use Rattle.alone.proofs.Reading.{read-end, read-stuck}
 use borrow.Author.Needs.{needs}
 use Rattle.alone.proofs.read_built.Statement.{statement}
 use Rattle.alone.proofs.read_built.Tie as tie
@@ -26,7 +26,7 @@ same-length-2 : tie.Need-same-length-2
 same-length-2 c = search needs
 
 returns : tie.Need-returns
-returns c = search readings
+returns c = search read-end
 
 same-length-3 : tie.Need-same-length-3
 same-length-3 c = search needs
@@ -35,7 +35,7 @@ same-length-4 : tie.Need-same-length-4
 same-length-4 c = search needs
 
 returns-2 : tie.Need-returns-2
-returns-2 c = search readings
+returns-2 c = search read-stuck
 
 pub read-built-spec : {M : Type 1} → statement M
 read-built-spec =

@@ -1,5 +1,5 @@
 -- `build_part` writes a plane's table into its stretch of the workspace (document 01, "Words and lookup").
-use Rattle.builder.proofs.Written.{writing}
+use Rattle.builder.proofs.Written.{part-written}
 use borrow.Author.Needs.{needs}
 use Rattle.builder.proofs.build_part.Statement.{statement}
 use Rattle.builder.proofs.build_part.Tie as tie
@@ -23,7 +23,7 @@ same-length : tie.Need-same-length
 same-length c = search needs
 
 returns : tie.Need-returns
-returns c = search writing
+returns c = search part-written
 
 pub build-part-spec : {M : Type 1} → statement M
 build-part-spec =

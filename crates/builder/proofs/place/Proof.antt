@@ -3,7 +3,7 @@ use mathlib.Core.Path.{_≡_}
 use Prim.Native.Nat.{_-_}
 use lib.ListN.{length}
 use Rattle.builder.specs.Slots.{WordsPlaced}
-use Rattle.builder.proofs.Placing.{placing}
+use Rattle.builder.proofs.Placing.{placed-start, placed-end}
 use borrow.Author.Needs.{needs}
 use Rattle.builder.proofs.place.Statement.{statement}
 use Rattle.builder.proofs.place.Tie as tie
@@ -18,7 +18,7 @@ fill-requires : tie.Need-fill-requires Inv-loop μ-loop
 fill-requires c κs = search needs
 
 loop-holds : tie.Need-loop-holds Inv-loop μ-loop
-loop-holds c = (search placing, search needs)
+loop-holds c = (search placed-start, search needs)
 
 place-symbol-requires : tie.Need-place-symbol-requires Inv-loop μ-loop
 place-symbol-requires c κs = search needs
@@ -30,13 +30,13 @@ loop-less : tie.Need-loop-less Inv-loop μ-loop
 loop-less c = search needs
 
 loop-again : tie.Need-loop-again Inv-loop μ-loop
-loop-again c = (search placing, search needs)
+loop-again c = (search needs, search needs)
 
 same-length : tie.Need-same-length Inv-loop μ-loop
 same-length c = search needs
 
 returns : tie.Need-returns Inv-loop μ-loop
-returns c = search placing
+returns c = search placed-end
 
 pub place-spec : {M : Type 1} → statement M
 place-spec =

@@ -1,5 +1,5 @@
 -- `put` writes one symbol's row of slots (document 01, "Words and lookup").
-use Rattle.builder.proofs.Placing.{putting}
+use Rattle.builder.proofs.Placing.{put-room, put-product, put-start, put-written}
 use borrow.Author.Needs.{needs}
 use Rattle.builder.proofs.put.Statement.{statement}
 use Rattle.builder.proofs.put.Tie as tie
@@ -17,10 +17,10 @@ slot-base-requires : tie.Need-slot-base-requires
 slot-base-requires c κs = search needs
 
 mul-from : tie.Need-mul-from
-mul-from c = search putting
+mul-from c = search put-product
 
 add-from : tie.Need-add-from
-add-from c = search putting
+add-from c = search put-start
 
 mul-fill : tie.Need-mul-fill
 mul-fill c = search needs
@@ -32,13 +32,13 @@ cast-fill : tie.Need-cast-fill
 cast-fill c = search needs
 
 fill-requires : tie.Need-fill-requires
-fill-requires c κs = search putting
+fill-requires c κs = search put-room
 
 same-length : tie.Need-same-length
 same-length c = search needs
 
 returns : tie.Need-returns
-returns c = search putting
+returns c = search put-written
 
 pub put-spec : {M : Type 1} → statement M
 put-spec =

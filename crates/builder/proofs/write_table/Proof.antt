@@ -1,5 +1,5 @@
 -- `write_table` leaves the table in exactly the words that it needs (document 01, "Words and lookup").
-use Rattle.builder.proofs.Written.{writing}
+use Rattle.builder.proofs.Written.{marks-room, written}
 use borrow.Author.Needs.{needs}
 use Rattle.builder.proofs.write_table.Statement.{statement}
 use Rattle.builder.proofs.write_table.Tie as tie
@@ -17,13 +17,13 @@ place-requires : tie.Need-place-requires
 place-requires c κs = search needs
 
 fill-requires : tie.Need-fill-requires
-fill-requires c κs = search writing
+fill-requires c κs = search marks-room
 
 same-length : tie.Need-same-length
 same-length c = search needs
 
 returns : tie.Need-returns
-returns c = search writing
+returns c = search written
 
 pub write-table-spec : {M : Type 1} → statement M
 write-table-spec =

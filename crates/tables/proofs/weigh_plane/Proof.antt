@@ -1,5 +1,6 @@
 -- `weigh_plane` weighs the plane's part of the lent lengths (document 01, refusals 9 and 10).
-use Rattle.tables.proofs.Weighing.{weighs}
+use Rattle.geometry.proofs.Lengths.{part-start-fits, part-end-fits, part-room, part-few}
+use Rattle.tables.proofs.Weighing.{weighed-part}
 use borrow.Author.Needs.{needs}
 use Rattle.tables.proofs.weigh_plane.Statement.{statement}
 use Rattle.tables.proofs.weigh_plane.Tie as tie
@@ -8,13 +9,13 @@ symbol-count-requires : tie.Need-symbol-count-requires
 symbol-count-requires c κs = search needs
 
 mul-weigh : tie.Need-mul-weigh
-mul-weigh c = search weighs
+mul-weigh c = search part-start-fits
 
 mul-weigh-2 : tie.Need-mul-weigh-2
-mul-weigh-2 c = search weighs
+mul-weigh-2 c = search part-start-fits
 
 add-weigh : tie.Need-add-weigh
-add-weigh c = search weighs
+add-weigh c = search part-end-fits
 
 sub-weigh : tie.Need-sub-weigh
 sub-weigh c = search needs
@@ -23,13 +24,13 @@ part-weigh-start : tie.Need-part-weigh-start
 part-weigh-start c = search needs
 
 part-weigh-end : tie.Need-part-weigh-end
-part-weigh-end c = search weighs
+part-weigh-end c = search part-room
 
 weigh-requires : tie.Need-weigh-requires
-weigh-requires c κs = search weighs
+weigh-requires c κs = search part-few
 
 returns : tie.Need-returns
-returns c = search weighs
+returns c = search weighed-part
 
 pub weigh-plane-spec : {M : Type 1} → statement M
 weigh-plane-spec =

@@ -1,5 +1,5 @@
 -- `first_words` walks from the longest length down with the running end that wraps (document 01, "Words and lookup").
-use Rattle.words.proofs.Walking.{Walks, walking}
+use Rattle.words.proofs.Walking.{Walks, walks-start, walks-refused, walks-step, walks-end}
 use borrow.Author.Needs.{needs}
 use Rattle.words.proofs.first_words.Statement.{statement}
 use Rattle.words.proofs.first_words.Tie as tie
@@ -11,7 +11,7 @@ abbrev μ-loop : tie.MeasureT-loop
 μ-loop m count at₀ a₀ l₀ at a l = l
 
 loop-holds : tie.Need-loop-holds Inv-loop μ-loop
-loop-holds c = search walking
+loop-holds c = search walks-start
 
 mul-n : tie.Need-mul-n Inv-loop μ-loop
 mul-n c = search needs
@@ -38,7 +38,7 @@ shl-room : tie.Need-shl-room Inv-loop μ-loop
 shl-room c = search needs
 
 returns : tie.Need-returns Inv-loop μ-loop
-returns c = search walking
+returns c = search walks-refused
 
 sub-l : tie.Need-sub-l Inv-loop μ-loop
 sub-l c = search needs
@@ -47,10 +47,10 @@ loop-less : tie.Need-loop-less Inv-loop μ-loop
 loop-less c = search needs
 
 loop-again : tie.Need-loop-again Inv-loop μ-loop
-loop-again c = search walking
+loop-again c = search walks-step
 
 returns-2 : tie.Need-returns-2 Inv-loop μ-loop
-returns-2 c = search walking
+returns-2 c = search walks-end
 
 pub first-words-spec : {M : Type 1} → statement M
 first-words-spec =

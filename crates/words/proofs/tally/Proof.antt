@@ -2,7 +2,7 @@
 use mathlib.Core.Bool.{true≢false}
 use Prim.Native.Nat.{_-_}
 use lib.ListN.{length}
-use Rattle.words.proofs.Tallying.{Counted, counting, counted-long, counted-short, counted-end}
+use Rattle.words.proofs.Tallying.{Counted, counted-start, counted-fits, counted-step, counted-long, counted-short, counted-end}
 use borrow.Author.Needs.{needs}
 use native.Mathlib.Omega.{arith}
 use Rattle.words.proofs.tally.Statement.{statement}
@@ -15,7 +15,7 @@ abbrev μ-loop : tie.MeasureT-loop
 μ-loop lengths count₀ i₀ count i = length lengths - i
 
 loop-holds : tie.Need-loop-holds Inv-loop μ-loop
-loop-holds c = search counting
+loop-holds c = search counted-start
 
 shared-slice-read-l : tie.Need-shared-slice-read-l Inv-loop μ-loop
 shared-slice-read-l c = search needs
@@ -33,7 +33,7 @@ array-read-count : tie.Need-array-read-count Inv-loop μ-loop
 array-read-count c = search needs
 
 add-count : tie.Need-add-count Inv-loop μ-loop
-add-count c = search counting
+add-count c = search counted-fits
 
 mul-count-2 : tie.Need-mul-count-2 Inv-loop μ-loop
 mul-count-2 c = search needs
@@ -48,7 +48,7 @@ loop-less : tie.Need-loop-less Inv-loop μ-loop
 loop-less c = search needs
 
 loop-again : tie.Need-loop-again Inv-loop μ-loop
-loop-again c = search counting
+loop-again c = search counted-step
 
 returns-2 : tie.Need-returns-2 Inv-loop μ-loop
 returns-2 c = (search counted-short, λ e. search counted-end)

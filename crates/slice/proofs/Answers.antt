@@ -1,12 +1,10 @@
 -- What a slice answers, by its predictor byte and by where the reading of its residues ended, and the samples that are rebuilt from them
 -- (document 01, "Refusal numbers": "each 15 before its 14"). Over any lookup and depth. Assumes nothing.
 use mathlib.Core.Path.{_≡_, refl, sym, ap, _∙_}
-use mathlib.Core.Bool.{false, not, _&&_}
 use mathlib.Core.List.{List}
 use Prim.Native.Nat.{ℕ, _≤_, _<_}
 use borrow.Author.Needs.{needs}
 use borrow.Author.Tests.{le-leb, lt-leb}
-use lib.Dec.{leb}
 use Rattle.scope.specs.Geometry.{fields}
 use Rattle.scope.specs.Words.{Chain, symbols, stuckAt}
 use Rattle.scope.specs.Prediction.{samplesOf}

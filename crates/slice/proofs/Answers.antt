@@ -1,12 +1,10 @@
 -- What a slice answers, by its predictor byte and by where the reading of its residues ended, and the samples that are rebuilt from them
 -- (document 01, "Refusal numbers": "each 15 before its 14"). Over any lookup and depth. Assumes nothing.
 use mathlib.Core.Path.{_≡_, refl, sym, ap, _∙_}
-use mathlib.Core.Bool.{false, not, _&&_}
 use mathlib.Core.List.{List}
 use Prim.Native.Nat.{ℕ, _≤_, _<_}
 use borrow.Author.Needs.{needs}
 use borrow.Author.Tests.{le-leb, lt-leb}
-use lib.Dec.{leb}
 use Rattle.scope.specs.Geometry.{fields}
 use Rattle.scope.specs.Words.{Chain, symbols, stuckAt}
 use Rattle.scope.specs.Prediction.{samplesOf}
@@ -49,6 +47,10 @@ unfolding rdg.reached frm.symbolsOf
 ended-symbols (symbols ss) at e h = refl
 ended-symbols (stuckAt q) at e h = cc
 
+-- a refusal is no success
+pub not-done : {n : ℕ} {place : Place} {xs ys : List ℕ} → Refused n place ≡ Done → xs ≡ ys
+not-done e = cc
+
 -- ---- a slice
 
 module _ (look : ℕ → Found) (depth : ℕ) (frame : List ℕ) (a : SliceAt) where
@@ -74,7 +76,7 @@ module _ {look : ℕ → Found} {depth : ℕ} {frame : List ℕ} {a : SliceAt} {
 
   module _ (w : SliceRead look depth frame a r out) where
     -- the answer is that of the reading's end
-    pub read-answer : {x : Answer} → x ≡ answered (a .plane) r → x ≡ readBy look depth frame a
+    read-answer : {x : Answer} → x ≡ answered (a .plane) r → x ≡ readBy look depth frame a
     unfolding readBy
     read-answer e =
         e
@@ -83,7 +85,7 @@ module _ {look : ℕ → Found} {depth : ℕ} {frame : List ℕ} {a : SliceAt} {
         ∙ rw (le-leb 1 (a .predictor) (w .from-left), le-leb (a .predictor) 3 (w .to-median))
 
     -- and where it ended, the samples are rebuilt from the residues
-    pub read-samples : {at f : ℕ} (g : Geometry) {ys : List ℕ} → r ≡ End at → f ≡ fields g → ys ≡ samplesOf depth (a .predictor) (a .width) f out → ys ≡ samplesBy look depth (fields g) frame a
+    read-samples : {at f : ℕ} (g : Geometry) {ys : List ℕ} → r ≡ End at → f ≡ fields g → ys ≡ samplesOf depth (a .predictor) (a .width) f out → ys ≡ samplesBy look depth (fields g) frame a
     unfolding samplesBy
     read-samples {at} g e ef ey =
         let whole : residuesBy look depth frame a ≡ symbols (symbolsOf (residuesBy look depth frame a)) =
@@ -91,13 +93,13 @@ module _ {look : ℕ → Found} {depth : ℕ} {frame : List ℕ} {a : SliceAt} {
         in
         rw ef at ey ∙ ap (samplesOf depth (a .predictor) (a .width) (fields g)) (w .residues .handed (symbolsOf (residuesBy look depth frame a)) whole)
 
--- a reading that is stuck is no success
-pub stuck-not-done : (plane : ℕ) {at : ℕ} {r : Reached} {x : Answer} {xs ys : List ℕ} → r ≡ Stuck at → x ≡ answered plane r → x ≡ Done → xs ≡ ys
-unfolding answered
-stuck-not-done plane e h k =
-    let z : Refused 14 (Plane plane) ≡ Done = sym (rw e at h) ∙ k in
-    cc
+    -- all that the reading of a slice promises: where it ended, of the samples ys that were rebuilt
+    pub slice-ends : {at f : ℕ} (g : Geometry) {x : Answer} {ys gaps found : List ℕ} → x ≡ answered (a .plane) r → r ≡ End at → f ≡ fields g
+        → ys ≡ samplesOf depth (a .predictor) (a .width) f out → gaps ≡ found
+        → (x ≡ readBy look depth frame a) × ((x ≡ Done → ys ≡ samplesBy look depth (fields g) frame a) × (gaps ≡ found))
+    slice-ends g ex e ef ey eg = (read-answer ex, (λ d. read-samples g e ef ey, eg))
 
--- nor is a refusal
-pub not-done : {n : ℕ} {place : Place} {xs ys : List ℕ} → Refused n place ≡ Done → xs ≡ ys
-not-done e = cc
+    -- and where it is stuck, which is no success
+    pub slice-stops : {at : ℕ} {x : Answer} {ys zs gaps found : List ℕ} → x ≡ answered (a .plane) r → r ≡ Stuck at → gaps ≡ found
+        → (x ≡ readBy look depth frame a) × ((x ≡ Done → ys ≡ zs) × (gaps ≡ found))
+    slice-stops {at} ex e eg = (read-answer ex, (λ d. not-done (answered-stuck (a .plane) r at e ∙ sym ex ∙ d), eg))

@@ -1,9 +1,9 @@
 -- The loop that reads raw samples row by row, each row into its own places, for every depth and element (document 01, "Layout": "Raw depth
 -- 8 is one byte a sample; deeper raw samples are packed"). Assumes nothing.
-use mathlib.Core.Path.{_≡_, refl, sym, ap, _∙_}
+use mathlib.Core.Path.{_≡_, ap, _∙_}
 use mathlib.Core.List.{List, _++_}
 use Prim.Native.Nat.{ℕ, _+_, _-_, _*_, _≤_, _<_}
-use native.Mathlib.Nat.{suc-mul, zero-mul, zero-add, mul-le-mul-left, mul-le-mul-right}
+use native.Mathlib.Nat.{suc-mul, zero-mul, zero-add, mul-le-mul-right}
 use native.Mathlib.Numerals.{add-one}
 use native.Mathlib.Omega.{arith}
 use mir.Syntax.{w64}

@@ -1,6 +1,6 @@
 -- A slice's residues, raw or coded, over any lookup and depth: what each way of reading asks and what it gives (document 01, "Layout" and
 -- "Words and lookup"). Assumes nothing.
-use mathlib.Core.Path.{_≡_, refl, sym, ap, _∙_}
+use mathlib.Core.Path.{_≡_, refl, _∙_}
 use mathlib.Core.Bool.{true, false}
 use mathlib.Core.List.{List}
 use Prim.Native.Nat.{ℕ, _+_, _-_, _*_, _^_, _≤_, _<_}
@@ -9,10 +9,10 @@ use native.Mathlib.Omega.{arith}
 use mir.Syntax.{w64}
 use mir.Val.{Fits}
 use borrow.Author.Needs.{needs}
-use lib.ListN.{length, take, drop, length-drop}
+use lib.ListN.{length, drop, length-drop}
 use lib.Seq.{length-take-le}
 use Rattle.scope.specs.Bits.{rawSamples}
-use Rattle.scope.specs.Words.{Chain, symbols, chainBy}
+use Rattle.scope.specs.Words.{symbols}
 use Rattle.scope.specs.declared.SliceAt.{SliceAt}
 use Rattle.scope.specs.declared.Found.{Found}
 use Rattle.bits.specs.Raw.{RawIn}

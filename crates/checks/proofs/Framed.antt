@@ -51,8 +51,12 @@ module _ (frame : List ℕ) (g : Geometry) (shorts : List ℕ) (t : ℕ) (seen :
   slice-refused = going-refused (slicesBy frame g shorts) frame g t seen s w p ls ei r by-slice
 
 -- a shortest word is a byte
-pub short-small : (shorts : List ℕ) (p : ℕ) → Shortests shorts → getD shorts p 0 < 256
-short-small shorts p h = h .small p
+pub short-small : (g : Geometry) (shorts : List ℕ) (p : ℕ) → Shortests g shorts → p < planeCount g → getD shorts p 0 < 256
+short-small g shorts p h l = h .small p l
+
+-- which matters only where 9 and 10 refuse nothing
+pub shorts-told : (g : Geometry) (shorts : List ℕ) (words : Answer) → (words ≡ Done → Shortests g shorts) → words ≡ Done → Shortests g shorts
+shorts-told g shorts words h e = h e
 
 -- ---- the steps in order
 
@@ -93,7 +97,7 @@ room-short need w h = rw (lt-ltb w need h)
 pub room-enough : (need w : ℕ) → need ≤ w → Done ≡ refuseIf (ltb w need) 11 Nothing
 room-enough need w h = rw (le-ltb w need h)
 
-pub ruleset wordings = (words-refused, words-full, words-slices, layout-order, needs)
+pub ruleset wordings = (words-refused, words-full, words-slices, layout-order, shorts-told, needs)
 
 pub ruleset frames = (frame-early, frame-late, layout-told, needs)
 

@@ -1,7 +1,6 @@
 -- Document 01, "Refusal numbers", 12 to 14 of a slice and 5 to 14 of a frame, as functions of what they are judged by: a slice's own
 -- record and its plane's shortest word, and the answers of the lengths and of the workspace. proofs/Framed.antt has that they are
 -- `sliceCheck` and `frameChecks`. Assumes nothing.
-use mathlib.Core.Path.{_≡_}
 use Prim.Native.Nat.{ℕ, _+_, _-_, _*_, _<_}
 use mathlib.Core.Bool.{Bool, cond, not, _&&_}
 use mathlib.Core.List.{List}
@@ -9,7 +8,7 @@ use lib.Dec.{eqb, ltb}
 use lib.ListN.{length, getD}
 use Rattle.scope.specs.Base.{overUp}
 use Rattle.scope.specs.Refusals.{refuseIf, _andThen_, inOrder}
-use Rattle.scope.specs.Geometry.{sliceCount}
+use Rattle.scope.specs.Geometry.{planeCount, sliceCount}
 use Rattle.scope.specs.Layout.{planeIndex, sliceAt}
 use Rattle.scope.specs.declared.Geometry.{Geometry}
 use Rattle.scope.specs.declared.SliceAt.{SliceAt}
@@ -51,7 +50,6 @@ framedBy frame g words room shortest =
     let rest : Answer = wordsBy frame g words room shortest in
     layoutChecks frame g andThen rest
 
--- the shortest words of four planes are bytes
-pub record Shortests (at : List ℕ) : Type 0 where
-  pub small : (p : ℕ) → getD at p 0 < 256
-  pub four : length at ≡ 4
+-- the shortest words of the planes are bytes
+pub record Shortests (g : Geometry) (at : List ℕ) : Type 0 where
+  pub small : (p : ℕ) → p < planeCount g → getD at p 0 < 256

@@ -67,7 +67,7 @@ fn check_slice(a: SliceAt, len: usize, depth: usize, b: usize) -> Answer
 fn check_slices(frame: &[u8], g: Geometry, shortest: [usize; 4]) -> Answer
     requires { ⌜ Sound g ⌝ }
     requires { ⌜ Done ≡ inOrder (sliceCount g) (indexCheck (now frame) g) ⌝ }
-    requires { ⌜ Shortests shortest ⌝ }
+    requires { ⌜ Shortests g shortest ⌝ }
     ensures { λ r. ⌜ r ≡ inOrder (sliceCount g) (slicesBy (now (frame .entry)) g shortest) ⌝ }
 {
     let t = slice_count(g);
@@ -109,7 +109,7 @@ fn check_words(
 ) -> Answer
     requires { ⌜ Sound g ⌝ }
     requires { ⌜ Done ≡ layoutChecks (now frame) g ⌝ }
-    requires { ⌜ Shortests shortest ⌝ }
+    requires { ⌜ (words ≡ Done → Shortests g shortest) ⌝ }
     ensures { λ r. ⌜ r ≡ wordsBy (now (frame .entry)) g words room shortest ⌝ }
 {
     match words {
@@ -130,7 +130,7 @@ pub fn check_frame(
     shortest: [usize; 4],
 ) -> Answer
     requires { ⌜ Sound g ⌝ }
-    requires { ⌜ Shortests shortest ⌝ }
+    requires { ⌜ (words ≡ Done → Shortests g shortest) ⌝ }
     ensures { λ r. ⌜ r ≡ framedBy (now (frame .entry)) g words room shortest ⌝ }
 {
     let a = check_layout(frame, g);

@@ -1,84 +1,77 @@
-// Document 01's entry for depths 10, 12 and 14, whose samples are 16-bit: the checks, every slice read in wire order into its own part
-// of the planes, G added, and what is left in lent memory. Crate decode8 has the same for depth 8.
+// Document 01's entry for depths 10, 12 and 14: the checks, every slice read in wire order into its own rows of the planes, G added, and what is
+// left in lent memory. Crate decode8 is the same for depth 8.
 use scope::Answer;
 use scope::Geometry;
+use scope::SliceAt;
 use tables::Codes;
 ghost use mathlib.Core.Path.{_≡_};
-ghost use mathlib.Core.Bool.{true, false};
-ghost use Prim.Native.Nat.{_*_, _^_, _<_, _≤_};
+ghost use mathlib.Core.Bool.{true};
+ghost use Prim.Native.Nat.{_*_, _^_, _<_};
 ghost use lib.ListN.{length};
-ghost use Rattle.scope.specs.Geometry.{planeCount, sliceCount, allSamples};
-ghost use Rattle.scope.specs.Frame.{readCheck, readChecks, wirePlane, pictureOf, roomCheck, restOf, Decoded};
+ghost use Rattle.scope.specs.Refusals.{inOrder};
+ghost use Rattle.scope.specs.Geometry.{planeCount, sliceCount, allElements};
+ghost use Rattle.scope.specs.Layout.{sliceAt};
+ghost use Rattle.scope.specs.Frame.{pictureOf, roomCheck, restOf, Decoded};
 ghost use Rattle.scope.specs.declared.Answer.the-variants.{Done};
 ghost use Rattle.geometry.specs.Sound.{Sound};
 ghost use Rattle.layout.specs.Placed.{Placed};
-ghost use Rattle.tables.specs.Tables.{Tables, Coded};
 ghost use Rattle.planes.specs.Standing.{Planes};
-ghost use Rattle.picture.specs.Steps.{Checked, withSlice};
+ghost use Rattle.picture.specs.Steps.{tableLook, readAt, samplesFor, planeOf, Ready, withRows, pictureBy};
 
-// Slice s, which is place k of plane p, into its part of the planes.
-fn place_slice_u16(
+// A slice, by its plane's table, into its rows of the planes.
+fn place_slice(
     frame: &[u8],
     g: Geometry,
-    lengths: &[u8],
-    t: usize,
-    s: usize,
-    p: usize,
-    k: usize,
+    a: SliceAt,
     workspace: &[u32],
     codes: Codes,
     planes: &mut [u16],
 ) -> Answer
-    requires { ⌜ Checked (now frame) g (now lengths) ⌝ }
-    requires { ⌜ (t ≡ sliceCount g) × (t ≤ 65536) × (s < t) ⌝ }
-    requires { ⌜ Placed (now frame) g s p k ⌝ }
-    requires { ⌜ Tables g (now lengths) (now workspace) ⌝ }
-    requires { ⌜ Coded g (now lengths) codes (planeCount g) ⌝ }
-    requires { ⌜ (length (now planes) ≡ allSamples g) × (8 < g .depth) ⌝ }
-    ensures answer { λ r. ⌜ r ≡ readCheck (now (frame .entry)) g (now (lengths .entry)) s ⌝ }
-    ensures planes { λ r. ⌜ (r ≡ Done → now (planes .exit) ≡ withSlice (now (frame .entry)) g (now (lengths .entry)) s p k (now (planes .entry))) ⌝ }
+    requires { ⌜ Ready (2 ^ 16) (now frame) g (now workspace) codes ⌝ }
+    requires { ⌜ (a ≡ sliceAt (now frame) g (a .number)) × (a .number < sliceCount g) ⌝ }
+    requires { ⌜ Placed (now frame) g (a .number) (a .plane) (a .place) ⌝ }
+    requires { ⌜ (length (now planes) ≡ allElements g) × (8 < g .depth) ⌝ }
+    ensures answer { λ r. ⌜ r ≡ readAt (tableLook (now (workspace .entry)) codes) (now (frame .entry)) g (a .number) ⌝ }
+    ensures planes { λ r. ⌜ (r ≡ Done → now (planes .exit) ≡ withRows g a (samplesFor (tableLook (now (workspace .entry)) codes) (now (frame .entry)) g (a .number)) (now (planes .entry))) ⌝ }
 {
-    let at = geometry::place_start(g, p, k);
-    let n = geometry::place_samples(g, p, k);
-    let c = tables::code_of(codes, p);
-    slice::slice_u16(
+    let p = a.plane;
+    let r = stretches::stretch_of(g, p, a.first, a.rows);
+    let at = r.at;
+    let end = at + r.rows * r.pitch;
+    let from = codes.from[p];
+    let to = codes.to[p];
+    slice16::slice(
         frame,
         g,
-        lengths,
-        t,
-        s,
-        p,
-        workspace,
-        c.from,
-        c.to,
-        c.longest,
-        &mut planes[at..at + n],
+        a,
+        r.pitch,
+        &workspace[from..to],
+        codes.longest[p],
+        &mut planes[at..end],
     )
 }
 
 // Every slice in wire order, each into its place.
-fn read_slices_u16(
+fn read_slices(
     frame: &[u8],
     g: Geometry,
-    lengths: &[u8],
     workspace: &[u32],
     codes: Codes,
     planes: &mut [u16],
 ) -> Answer
-    requires { ⌜ Checked (now frame) g (now lengths) ⌝ }
-    requires { ⌜ Tables g (now lengths) (now workspace) ⌝ }
-    requires { ⌜ Coded g (now lengths) codes (planeCount g) ⌝ }
-    requires { ⌜ (length (now planes) ≡ allSamples g) × (8 < g .depth) ⌝ }
-    ensures answer { λ r. ⌜ r ≡ readChecks (now (frame .entry)) g (now (lengths .entry)) ⌝ }
-    ensures planes { λ r. ⌜ (r ≡ Done → Planes g (wirePlane (now (frame .entry)) g (now (lengths .entry))) (now (planes .exit))) ⌝ }
+    requires { ⌜ Ready (2 ^ 16) (now frame) g (now workspace) codes ⌝ }
+    requires { ⌜ (length (now planes) ≡ allElements g) × (8 < g .depth) ⌝ }
+    ensures answer { λ r. ⌜ r ≡ inOrder (sliceCount g) (readAt (tableLook (now (workspace .entry)) codes) (now (frame .entry)) g) ⌝ }
+    ensures planes { λ r. ⌜ (r ≡ Done → Planes g (planeOf (samplesFor (tableLook (now (workspace .entry)) codes) (now (frame .entry)) g) (now (frame .entry)) g) (now (planes .exit))) ⌝ }
 {
-    let t = geometry::slice_count(g);
+    let t = sides::slice_count(g);
     let mut seen = [0usize; 4];
     let mut s = 0;
     while s < t {
-        let p = layout::plane_index(frame, g, t, s);
+        let p = layout::plane_index(frame, g, s);
         let k = seen[p];
-        let r = place_slice_u16(frame, g, lengths, t, s, p, k, workspace, codes, planes);
+        let a = layout::slice_at(frame, g, s, p, k);
+        let r = place_slice(frame, g, a, workspace, codes, planes);
         match r {
             Answer::Done => {
                 seen[p] = k + 1;
@@ -90,8 +83,31 @@ fn read_slices_u16(
     Answer::Done // every slice is in its place
 }
 
-// The checks, the tables, the reading and the colours of depths 10, 12 and 14. What a refusal leaves in lent memory is not said: the entry clears it.
-fn run_u16(
+// The slices, then the colours.
+fn read_planes(
+    frame: &[u8],
+    g: Geometry,
+    workspace: &[u32],
+    codes: Codes,
+    planes: &mut [u16],
+) -> Answer
+    requires { ⌜ Ready (2 ^ 16) (now frame) g (now workspace) codes ⌝ }
+    requires { ⌜ (length (now planes) ≡ allElements g) × (8 < g .depth) ⌝ }
+    ensures answer { λ r. ⌜ r ≡ inOrder (sliceCount g) (readAt (tableLook (now (workspace .entry)) codes) (now (frame .entry)) g) ⌝ }
+    ensures planes { λ r. ⌜ (r ≡ Done → now (planes .exit) ≡ pictureBy g (planeOf (samplesFor (tableLook (now (workspace .entry)) codes) (now (frame .entry)) g) (now (frame .entry)) g)) ⌝ }
+{
+    let a = read_slices(frame, g, workspace, codes, planes);
+    match a {
+        Answer::Refused(n, w) => Answer::Refused(n, w), // 15 or 14: some slices were read
+        Answer::Done => {
+            buffer16::add_green(g, planes);
+            Answer::Done // the planes are the picture
+        }
+    }
+}
+
+// The checks, the tables, the reading and the colours. What a refusal leaves in lent memory is not said: the entry clears it.
+fn run(
     frame: &[u8],
     g: Geometry,
     lengths: &[u8],
@@ -100,23 +116,20 @@ fn run_u16(
 ) -> Answer
     requires { ⌜ Sound g ⌝ }
     requires { ⌜ length (now lengths) ≡ planeCount g * 2 ^ g .depth ⌝ }
-    requires { ⌜ (length (now planes) ≡ allSamples g) × (8 < g .depth) ⌝ }
+    requires { ⌜ (length (now planes) ≡ allElements g) × (8 < g .depth) ⌝ }
     ensures answer { λ r. ⌜ r ≡ restOf (now (frame .entry)) g (now (lengths .entry)) (roomCheck g (now (lengths .entry)) (length (now (workspace .entry)))) ⌝ }
     ensures planes { λ r. ⌜ (r ≡ Done → now (planes .exit) ≡ pictureOf (now (frame .entry)) g (now (lengths .entry))) ⌝ }
 {
-    let a = frame::check_frame(frame, g, lengths, workspace.len());
+    let codes = tables::codes_of(g, lengths);
+    let words = codes.answer;
+    let shortest = codes.shortest;
+    let room = checks::check_room(codes.need, workspace.len());
+    let a = checks::check_frame(frame, g, words, room, shortest);
     match a {
         Answer::Refused(n, w) => Answer::Refused(n, w), // 5 to 14: nothing was written
         Answer::Done => {
-            let codes = tables::build_all(g, lengths, workspace);
-            let b = read_slices_u16(frame, g, lengths, workspace, codes, planes);
-            match b {
-                Answer::Refused(n, w) => Answer::Refused(n, w), // 15 or 14: some slices were read
-                Answer::Done => {
-                    planes::add_green_u16(g, planes);
-                    Answer::Done // the planes are the picture
-                }
-            }
+            tables::build_all(g, lengths, codes, workspace);
+            read_planes(frame, g, workspace, codes, planes)
         }
     }
 }
@@ -136,10 +149,10 @@ pub fn decode16(
     match a {
         Answer::Refused(n, w) => Answer::Refused(n, w), // 1 to 4: both are as found
         Answer::Done => {
-            let r = run_u16(frame, g, lengths, planes, workspace);
+            let r = run(frame, g, lengths, planes, workspace);
             match r {
                 Answer::Refused(n, w) => {
-                    memory::clear_u16(planes);
+                    buffer16::clear_planes(planes);
                     memory::clear_u32(workspace);
                     Answer::Refused(n, w) // both are wholly zero
                 }

@@ -1,33 +1,29 @@
 -- The parts of a decode's answer put together, over either entry. Only here, and once, is the lookup over the tables the word of the
 -- code lengths. Assumes nothing.
 use mathlib.Core.Path.{_≡_, refl, sym, ap, _∙_}
-use mathlib.Core.Bool.{Bool, true, false, cond}
-use mathlib.Core.List.{List, [], _++_}
-use Prim.Native.Nat.{ℕ, zero, suc, _+_, _-_, _*_, _^_, _≤_, _<_}
+use mathlib.Core.Bool.{Bool, true, false}
+use mathlib.Core.List.{List}
+use Prim.Native.Nat.{ℕ, zero, suc, _-_, _*_, _^_, _≤_, _<_}
 use native.Mathlib.Omega.{arith}
-use borrow.Author.Needs.{needs}
-use lib.Dec.{eqb, ltb}
+use lib.Dec.{ltb}
 use lib.ListN.{length, getD, drop, length-take}
 use lib.Pow.{pow-mono}
-use Rattle.scope.specs.Base as base
 use Rattle.scope.specs.Base.{part}
-use Rattle.scope.specs.Refusals as rfs
-use Rattle.scope.specs.Refusals.{refuseIf, _andThen_, inOrder}
+use Rattle.scope.specs.Refusals.{refuseIf, inOrder}
 use Rattle.scope.specs.Geometry as geo
 use Rattle.scope.specs.Geometry.{correlated, planeCount, sliceCount, planeWidth, rowsAt, allSamples, allElements, lengthsOf}
 use Rattle.scope.specs.Layout as lay
-use Rattle.scope.specs.Layout.{planeIndex, placeInPlane, payloadOf, samplesIn, sliceAt}
-use Rattle.scope.specs.Words.{longest, shares, shortest, need, wordAt}
+use Rattle.scope.specs.Layout.{planeIndex, placeInPlane, payloadOf, samplesIn}
+use Rattle.scope.specs.Words.{longest, shortest, need, wordAt}
 use Rattle.scope.specs.Lookup.{tableOf, lookupIn}
 use Rattle.scope.specs.Frame as frm
-use Rattle.scope.specs.Frame.{lentChecks, indexCheck, lengthCheck, needOfAll, roomCheck, sliceLengths, sliceCheck, frameChecks, readCheck, readChecks, sliceSamples, planeUpTo, wirePlane, bufferPlane, planesUpTo, pictureOf, restOf}
+use Rattle.scope.specs.Frame.{lentChecks, indexCheck, needOfAll, roomCheck, sliceLengths, sliceCheck, frameChecks, readChecks, planeUpTo, wirePlane, bufferPlane, pictureOf, restOf}
 use Rattle.scope.specs.declared.Geometry.{Geometry}
 use Rattle.scope.specs.declared.Place.{Place}
 use Rattle.scope.specs.declared.Place.the-variants.{Nothing}
 use Rattle.scope.specs.declared.Answer.{Answer}
 use Rattle.scope.specs.declared.Answer.the-variants.{Done, Refused}
 use Rattle.geometry.specs.Sound.{Sound}
-use Rattle.geometry.proofs.Places.{planes-most}
 use Rattle.refusals.proofs.InOrder.{each-passed}
 use Rattle.refusals.proofs.Rows.{index-below}
 use Rattle.incoming.proofs.Refused as lent
@@ -39,18 +35,18 @@ use Rattle.reader.specs.Reading.{Readable}
 use Rattle.reader.proofs.Chains.{code-readable}
 use Rattle.slice.proofs.Entry.{read-is, samples-is}
 use Rattle.slice.proofs.Passed.{passed-in}
-use Rattle.checks.specs.Slices.{framedBy}
+use Rattle.checks.specs.Slices.{framedBy, Shortests}
 use Rattle.checks.proofs.Sliced.{slice-in, prefix-in, raw-bits}
 use Rattle.tables.specs.declared.Codes.{Codes}
 use Rattle.tables.specs.Codes.{codesOf}
 use Rattle.tables.specs.Tables.{planeNeed, Tables}
-use Rattle.tables.proofs.Told.{answer-is, need-is, plane-short, plane-full, plane-passed, from-is, longest-is, shortest-is, stretch-long, stretch-room}
+use Rattle.tables.proofs.Told.{answer-is, need-is, plane-short, plane-full, plane-passed, from-is, longest-is, shortest-is, shortest-byte, stretch-long, stretch-room}
 use Rattle.planes.specs.Standing.{Planes, coloured}
 use Rattle.planes.proofs.Colours.{planes-same, picture-is}
 use Rattle.scope.specs.declared.Found.{Found}
 use Rattle.checks.proofs.Framed.{framed-is, order-same, frame-order, frame-lengths, frame-room, frame-slices, room-in}
 use Rattle.picture.specs.Steps as stp
-use Rattle.picture.specs.Steps.{Look, readAt, samplesFor, gathered, planeOf, tableLook, Ready, pictureBy}
+use Rattle.picture.specs.Steps.{readAt, samplesFor, gathered, planeOf, tableLook, Ready, pictureBy}
 
 -- ---- what refusals 1 to 4 leave, as the run asks for it
 
@@ -125,8 +121,9 @@ pub read-picture : (g : Geometry) (wire : ℕ → List ℕ) (a : Answer) (buf bu
 unfolding stp.pictureBy
 read-picture g wire a buf buf′ d pl e = picture-is g wire buf buf′ (pl d) e
 
-pub read-long : (g : Geometry) (wire : ℕ → List ℕ) (a : Answer) (buf : List ℕ) → a ≡ Done → (a ≡ Done → Planes g wire buf) → length buf ≡ allSamples g
-read-long g wire a buf d pl = pl d .whole
+-- the reading keeps the buffer's length
+pub read-long : (g : Geometry) (xs ys : List ℕ) → length ys ≡ length xs → length xs ≡ allElements g → length ys ≡ allSamples g
+read-long g xs ys k e = k ∙ e
 
 -- a refusal is no success
 pub no-planes : (n : ℕ) (q : Place) (g : Geometry) (wire : ℕ → List ℕ) (buf : List ℕ) → Refused n q ≡ Done → Planes g wire buf
@@ -216,3 +213,13 @@ module _ (frame : List ℕ) (g : Geometry) (lengths : List ℕ) (c : Codes) (is 
         pub run-picture : (buf : List ℕ) → b ≡ Done → (b ≡ Done → buf ≡ pictureBy g (planeOf (samplesFor (tableLook workspace c) frame g) frame g)) → buf ≡ pictureOf frame g lengths
         unfolding frm.pictureOf stp.pictureBy
         run-picture buf db pl = pl db ∙ planes-same _ _ (planeCount g) (λ q l. buffer-same (correlated (g .family)) (g .depth) _ _ planes-are q)
+
+-- ---- the steps of an entry
+
+-- an answer that is told
+pub told : (a b x : Answer) → a ≡ b → a ≡ x → x ≡ b
+told a b x e h = sym h ∙ e
+
+-- the shortest words that the codes have
+pub run-shorts : (g : Geometry) (lengths : List ℕ) (c : Codes) → c ≡ codesOf g lengths → c .answer ≡ Done → Shortests g (c .shortest)
+run-shorts g lengths c is ok = record { small = λ p l. shortest-byte g lengths c is ok p l }

@@ -1,8 +1,8 @@
 -- Every slice in wire order into its rows of the planes: what has been read before slice s, and that every plane is then whole. Assumes
 -- nothing.
-use mathlib.Core.Path.{_≡_, refl, sym, ap, _∙_}
-use mathlib.Core.List.{List, [], _∷_, _++_}
-use Prim.Native.Nat.{ℕ, zero, suc, _+_, _*_, _≤_, _<_}
+use mathlib.Core.Path.{_≡_, sym, ap, _∙_}
+use mathlib.Core.List.{List, [], _∷_}
+use Prim.Native.Nat.{ℕ, suc, _+_, _*_, _≤_, _<_}
 use native.Mathlib.Numerals.{add-one}
 use native.Mathlib.Omega.{arith}
 use borrow.Author.Needs.{needs}
@@ -30,9 +30,8 @@ use Rattle.scope.specs.Frame.{indexCheck}
 use Rattle.lists.proofs.Parts.{put-length}
 use Rattle.planes.specs.Standing.{Planes}
 use Rattle.planes.proofs.Holds.{Holds, holds-more}
-use Rattle.tables.specs.declared.Codes.{Codes}
 use Rattle.picture.specs.Steps as stp
-use Rattle.picture.specs.Steps.{Look, readAt, samplesFor, gathered, planeOf, Ready, withRows}
+use Rattle.picture.specs.Steps.{Look, readAt, samplesFor, gathered, planeOf, withRows}
 use Rattle.picture.proofs.Placing.{at-number, at-plane, at-place, at-first, at-rows, at-width}
 
 -- what has been read before slice s: each plane's stretch begins with the samples of the slices so far that name it

@@ -1,12 +1,11 @@
 -- One slice into its rows of the planes: which elements they are, that they lie within the buffer, and what they become. Assumes
 -- nothing.
-use mathlib.Core.Path.{_≡_, refl, sym, ap, _∙_}
+use mathlib.Core.Path.{_≡_, sym, ap, _∙_}
 use mathlib.Core.List.{List}
 use Prim.Native.Nat.{ℕ, _+_, _-_, _*_, _^_, _≤_, _<_}
 use native.Mathlib.Omega.{arith}
 use mir.Syntax.{w64}
 use mir.Val.{Fits}
-use borrow.Author.Needs.{needs}
 use borrow.Rule.Slice.PartMut.{putMid}
 use lib.ListN.{length, getD, take, drop, length-take, length-drop}
 use Rattle.scope.specs.Geometry as geo
@@ -228,3 +227,7 @@ module _ (limit : ℕ) (frame : List ℕ) (g : Geometry) (workspace : List ℕ) 
         → o ≡ Done → putMid (r .at) (r .at + r .rows * r .pitch - r .at) xs ys ≡ withRows g a (samplesFor (tableLook workspace c) frame g s) xs
     part-put x y m ex ey em o xs ys el ly e d =
         stretch-put frame g s a is pl (rd .sound) r er xs ys (samplesFor (tableLook workspace c) frame g s) ly el (e d ∙ samples-at x y m ex ey em)
+
+-- no depth is above 16
+pub deep-most : (limit : ℕ) (frame : List ℕ) (g : Geometry) (workspace : List ℕ) (c : Codes) → Ready limit frame g workspace c → g .depth ≤ 16
+deep-most limit frame g workspace c rd = omega (arith, rd .sound .deep .1)

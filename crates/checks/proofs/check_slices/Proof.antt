@@ -1,5 +1,5 @@
 use Prim.Native.Nat.{_-_}
-use Rattle.layout.proofs.Going.{Going, goes, going-placed, going-done}
+use Rattle.layout.proofs.Going.{Going, goes, going-placed, going-plane, going-done}
 use Rattle.checks.specs.Slices.{slicesBy}
 use Rattle.checks.proofs.Framed.{slice-step, slice-refused, short-small}
 use borrow.Author.Needs.{needs}
@@ -46,7 +46,7 @@ array-read-check-slice c = search goes
 
 -- src/lib.rt:79:13
 check-slice-requires : tie.Need-check-slice-requires Inv-loop μ-loop
-check-slice-requires c κs = (search needs, (search needs, search short-small))
+check-slice-requires c κs = (search needs, (search needs, search (short-small, going-plane)))
 
 -- src/lib.rt:82:27
 enum-told : tie.Need-enum-told Inv-loop μ-loop

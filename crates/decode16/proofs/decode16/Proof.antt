@@ -13,14 +13,14 @@ enum-known-a c = search needs
 enum-told : tie.Need-enum-told
 enum-told c = search needs
 
-run-u16-requires : tie.Need-run-u16-requires
-run-u16-requires c κs = (search lent-sound, (search lent-lengths, (search lent-planes, search lent-deep)))
+run-requires : tie.Need-run-requires
+run-requires c κs = (search lent-sound, (search lent-lengths, (search lent-planes, search lent-deep)))
 
 enum-known-r : tie.Need-enum-known-r
 enum-known-r c = search needs
 
-clear-u16-requires : tie.Need-clear-u16-requires
-clear-u16-requires c κs = search needs
+clear-planes-requires : tie.Need-clear-planes-requires
+clear-planes-requires c κs = search needs
 
 clear-u32-requires : tie.Need-clear-u32-requires
 clear-u32-requires c κs = search needs
@@ -59,9 +59,9 @@ decode16-spec =
     lent-checks-requires
     enum-known-a
     enum-told
-    run-u16-requires
+    run-requires
     enum-known-r
-    clear-u16-requires
+    clear-planes-requires
     clear-u32-requires
     enum-told-2
     clear-u32-requires-2

@@ -1,13 +1,8 @@
 use mathlib.Core.Path.{refl}
 use Rattle.picture.proofs.Placing.{rows-in, elements-fit, end-fits, plane-scaled, plane-four, table-scaled, table-starts, table-ends, part-in, slice-ready, part-rowed, words-ready, answer-at, part-put}
-use native.Mathlib.Omega.{arith}
 use borrow.Author.Needs.{needs}
 use Rattle.decode8.proofs.place_slice.Statement.{statement}
 use Rattle.decode8.proofs.place_slice.Tie as tie
-use Rattle.decode8.proofs.place_slice.Reads as reads
-use Rattle.decode8.proofs.place_slice.Lts as lts
-use Rattle.slice8.proofs.slice.Reads as slice-reads
-use Rattle.stretches.proofs.stretch_of.Reads as stretch-of-reads
 
 -- src/lib.rt:38:9
 stretch-of-requires : tie.Need-stretch-of-requires

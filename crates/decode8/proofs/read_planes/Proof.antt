@@ -1,11 +1,7 @@
-use native.Mathlib.Omega.{arith}
+use Rattle.picture.proofs.Entry.{told, read-long, read-picture, no-list}
 use borrow.Author.Needs.{needs}
 use Rattle.decode8.proofs.read_planes.Statement.{statement}
 use Rattle.decode8.proofs.read_planes.Tie as tie
-use Rattle.decode8.proofs.read_planes.Reads as reads
-use Rattle.decode8.proofs.read_planes.Lts as lts
-use Rattle.buffer8.proofs.add_green.Reads as add-green-reads
-use Rattle.decode8.proofs.read_slices.Reads as read-slices-reads
 
 -- src/lib.rt:99:9
 read-slices-requires : tie.Need-read-slices-requires
@@ -21,7 +17,7 @@ enum-told c = search needs
 
 -- src/lib.rt:103:13
 add-green-requires : tie.Need-add-green-requires
-add-green-requires c κs = search needs
+add-green-requires c κs = (search needs, (search read-long, search needs))
 
 -- src/lib.rt:87:1
 same-length : tie.Need-same-length
@@ -29,7 +25,7 @@ same-length c = search needs
 
 -- src/lib.rt:87:1
 returns : tie.Need-returns
-returns c = search needs
+returns c = (search told, λ e. search no-list)
 
 -- src/lib.rt:87:1
 same-length-2 : tie.Need-same-length-2
@@ -37,7 +33,7 @@ same-length-2 c = search needs
 
 -- src/lib.rt:87:1
 returns-2 : tie.Need-returns-2
-returns-2 c = search needs
+returns-2 c = (search told, λ e. search read-picture)
 
 pub read-planes-spec : {M : Type 1} → statement M
 read-planes-spec =

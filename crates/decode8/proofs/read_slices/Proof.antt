@@ -2,18 +2,11 @@ use mathlib.Core.Path.{_≡_}
 use Prim.Native.Nat.{_-_}
 use lib.ListN.{length}
 use Rattle.picture.specs.Steps.{tableLook}
-use Rattle.picture.proofs.Filling.{Reading, readings, reading-start, reading-at, filled-long, reading-own, reading-below, reading-placed, reading-step, reading-refused, reading-done, reading-planes}
+use Rattle.picture.proofs.Filling.{Reading, readings, reading-start, reading-at, reading-own, reading-below, reading-placed, reading-step, reading-refused, reading-done, reading-planes}
 use Rattle.picture.proofs.Entry.{no-planes}
 use borrow.Author.Needs.{needs}
-use native.Mathlib.Omega.{arith}
 use Rattle.decode8.proofs.read_slices.Statement.{statement}
 use Rattle.decode8.proofs.read_slices.Tie as tie
-use Rattle.decode8.proofs.read_slices.Reads as reads
-use Rattle.decode8.proofs.read_slices.Lts as lts
-use Rattle.decode8.proofs.place_slice.Reads as place-slice-reads
-use Rattle.layout.proofs.plane_index.Reads as plane-index-reads
-use Rattle.layout.proofs.slice_at.Reads as slice-at-reads
-use Rattle.sides.proofs.slice_count.Reads as slice-count-reads
 
 abbrev Inv-loop : tie.InvT-loop
 Inv-loop frame g workspace codes planes₀ t seen₀ s₀ planes seen s = Reading (tableLook workspace codes) frame g t seen s planes × (length planes ≡ length planes₀)

@@ -1,14 +1,8 @@
-use native.Mathlib.Omega.{arith}
+use mathlib.Core.Path.{refl}
+use Rattle.picture.proofs.Entry.{symbols-8, run-shorts, run-codes, run-room, run-ready, run-refused, run-read, run-picture, no-list}
 use borrow.Author.Needs.{needs}
 use Rattle.decode8.proofs.run.Statement.{statement}
 use Rattle.decode8.proofs.run.Tie as tie
-use Rattle.decode8.proofs.run.Reads as reads
-use Rattle.decode8.proofs.run.Lts as lts
-use Rattle.checks.proofs.check_frame.Reads as check-frame-reads
-use Rattle.checks.proofs.check_room.Reads as check-room-reads
-use Rattle.decode8.proofs.read_planes.Reads as read-planes-reads
-use Rattle.tables.proofs.build_all.Reads as build-all-reads
-use Rattle.tables.proofs.codes_of.Reads as codes-of-reads
 
 -- src/lib.rt:123:9
 codes-of-requires : tie.Need-codes-of-requires
@@ -20,7 +14,7 @@ check-room-requires c κs = search needs
 
 -- src/lib.rt:127:9
 check-frame-requires : tie.Need-check-frame-requires
-check-frame-requires c κs = search needs
+check-frame-requires c κs = (search needs, search run-shorts)
 
 -- src/lib.rt:129:25
 enum-known-a : tie.Need-enum-known-a
@@ -32,15 +26,26 @@ enum-told c = search needs
 
 -- src/lib.rt:131:13
 build-all-requires : tie.Need-build-all-requires
-build-all-requires c κs = search needs
+build-all-requires c κs = (search needs, (search needs, ((search needs, search run-codes), search run-room)))
 
 -- src/lib.rt:132:13
 read-planes-requires : tie.Need-read-planes-requires
-read-planes-requires c κs = search needs
+read-planes-requires c κs =
+    let lent = c .before .before in
+    let built = lent .before .before in
+    let passed = built .before .before in
+    let judged = passed .before .before in
+    let roomed = judged .before in
+    let coded = roomed .before .before in
+    let given = coded .before .before .before in
+    let entry = given .before .before in (
+      run-ready _ _ _ _ (coded .codes-of .ensures) _ _ _ refl (roomed .check-room .ensures) _ (judged .check-frame .ensures) (search needs) _ _ (entry .pre .0) (search symbols-8) (built .build-all .ensures .0),
+      (search needs, search needs),
+    )
 
 -- src/lib.rt:110:1
 returns : tie.Need-returns
-returns c = search needs
+returns c = (search run-refused, λ e. search no-list)
 
 -- src/lib.rt:110:1
 same-length : tie.Need-same-length
@@ -52,7 +57,7 @@ same-length-2 c = search needs
 
 -- src/lib.rt:110:1
 returns-2 : tie.Need-returns-2
-returns-2 c = search needs
+returns-2 c = (search run-read, λ e. search run-picture)
 
 pub run-spec : {M : Type 1} → statement M
 run-spec =

@@ -6,8 +6,6 @@ use Prim.Native.Nat.{ℕ, zero, suc, _+_, _-_, _*_, _^_, _≤_, _<_}
 use native.Mathlib.Decide.{ℕ-discrete}
 use native.Mathlib.Numerals.{add-one}
 use native.Mathlib.Omega.{arith}
-use mir.Syntax.{w64}
-use mir.Val.{Fits}
 use lib.ListN.{length, take, drop, getD, length-append}
 use lib.Seq.{take-at, drop-at, drop-drop}
 use Rattle.scope.specs.Base as base
@@ -24,39 +22,35 @@ use Rattle.geometry.proofs.Lengths.{part-is}
 use Rattle.tables.specs.Tables.{planeNeed, tableStart, tablesUpTo, withTables, Tables}
 use Rattle.tables.specs.Codes.{codesOf}
 use Rattle.tables.specs.declared.Codes.{Codes}
-use Rattle.tables.proofs.Told.{plane-four, plane-passed, plane-short, plane-full, from-is, longest-is, stretch-size}
+use Rattle.tables.proofs.Told.{plane-passed, plane-short, plane-full, from-is, longest-is, stretch-size}
 
 -- ---- `build_plane`: n lengths a plane, plane p's from p * n on
 
-module _ (g : Geometry) (lengths : List ℕ) (c : Codes) (is : c ≡ codesOf g lengths) (ok : c .answer ≡ Done) (p : ℕ) (l : p < planeCount g) where
-  -- p's place in an array
-  pub lay-offset : Fits w64 (p * 8)
-  lay-offset = record { fits = omega (arith, plane-four g lengths c is ok p l) }
+module _ (g : Geometry) (lengths : List ℕ) (c : Codes) (is : c ≡ codesOf g lengths) (ok : c .answer ≡ Done) (p : ℕ) (l : p < planeCount g)
+    (n : ℕ) (en : n ≡ 2 ^ g .depth) where
+  -- what `build_part` asks of the lengths
+  pub lay-short : longest (take (p * n + n - p * n) (drop (p * n) lengths)) ≤ 18
+  lay-short = rw (part-is g lengths p n en) (plane-short g lengths p (plane-passed g lengths c is ok p l))
 
-  module _ (n : ℕ) (en : n ≡ 2 ^ g .depth) where
-    -- what `build_part` asks of the lengths
-    pub lay-short : longest (take (p * n + n - p * n) (drop (p * n) lengths)) ≤ 18
-    lay-short = rw (part-is g lengths p n en) (plane-short g lengths p (plane-passed g lengths c is ok p l))
+  pub lay-full : shares (take (p * n + n - p * n) (drop (p * n) lengths)) ≤ 262144
+  lay-full = rw (part-is g lengths p n en) (plane-full g lengths p (plane-passed g lengths c is ok p l))
 
-    pub lay-full : shares (take (p * n + n - p * n) (drop (p * n) lengths)) ≤ 262144
-    lay-full = rw (part-is g lengths p n en) (plane-full g lengths p (plane-passed g lengths c is ok p l))
+  pub lay-longest : getD (c .longest) p 0 ≡ longest (take (p * n + n - p * n) (drop (p * n) lengths))
+  lay-longest = rw (part-is g lengths p n en) (longest-is g lengths c is ok p l)
 
-    pub lay-longest : getD (c .longest) p 0 ≡ longest (take (p * n + n - p * n) (drop (p * n) lengths))
-    lay-longest = rw (part-is g lengths p n en) (longest-is g lengths c is ok p l)
+  -- and of the stretch
+  pub lay-size : getD (c .to) p 0 - getD (c .from) p 0 ≡ need (take (p * n + n - p * n) (drop (p * n) lengths))
+  lay-size = rw (part-is g lengths p n en) (stretch-size g lengths c is ok p l)
 
-    -- and of the stretch
-    pub lay-size : getD (c .to) p 0 - getD (c .from) p 0 ≡ need (take (p * n + n - p * n) (drop (p * n) lengths))
-    lay-size = rw (part-is g lengths p n en) (stretch-size g lengths c is ok p l)
-
-    -- the table is laid
-    pub lay-table : (ws ws′ : List ℕ)
-        → ws′ ≡ replaced ws (getD (c .from) p 0) (getD (c .to) p 0 - getD (c .from) p 0) (tableOf (take (p * n + n - p * n) (drop (p * n) lengths)))
-        → ws′ ≡ replaced ws (tableStart g lengths p) (planeNeed g lengths p) (tableOf (lengthsOf g lengths p))
-    lay-table ws ws′ e =
-        e
-        ∙ ap (λ (x : List ℕ). replaced ws (getD (c .from) p 0) (getD (c .to) p 0 - getD (c .from) p 0) (tableOf x)) (part-is g lengths p n en)
-        ∙ ap (λ (x : ℕ). replaced ws (getD (c .from) p 0) x (tableOf (lengthsOf g lengths p))) (stretch-size g lengths c is ok p l)
-        ∙ ap (λ (x : ℕ). replaced ws x (planeNeed g lengths p) (tableOf (lengthsOf g lengths p))) (from-is g lengths c is ok p l)
+  -- the table is laid
+  pub lay-table : (ws ws′ : List ℕ)
+      → ws′ ≡ replaced ws (getD (c .from) p 0) (getD (c .to) p 0 - getD (c .from) p 0) (tableOf (take (p * n + n - p * n) (drop (p * n) lengths)))
+      → ws′ ≡ replaced ws (tableStart g lengths p) (planeNeed g lengths p) (tableOf (lengthsOf g lengths p))
+  lay-table ws ws′ e =
+      e
+      ∙ ap (λ (x : List ℕ). replaced ws (getD (c .from) p 0) (getD (c .to) p 0 - getD (c .from) p 0) (tableOf x)) (part-is g lengths p n en)
+      ∙ ap (λ (x : ℕ). replaced ws (getD (c .from) p 0) x (tableOf (lengthsOf g lengths p))) (stretch-size g lengths c is ok p l)
+      ∙ ap (λ (x : ℕ). replaced ws x (planeNeed g lengths p) (tableOf (lengthsOf g lengths p))) (from-is g lengths c is ok p l)
 
 -- ---- `build_all`
 

@@ -2,9 +2,11 @@
 -- of the workspace, its longest and its shortest length, and all needs together. Assumes nothing.
 use mathlib.Core.Path.{_≡_, refl, sym, ap, ap₂, _∙_}
 use mathlib.Core.List.{List}
-use Prim.Native.Nat.{ℕ, suc, _+_, _-_, _≤_, _<_}
+use Prim.Native.Nat.{ℕ, suc, _+_, _-_, _*_, _≤_, _<_}
 use native.Mathlib.Omega.{arith}
-use borrow.Author.Tests.{ltb-false}
+use borrow.Author.Tests.{lt-ltb, le-ltb, ltb-false}
+use mir.Syntax.{w64}
+use mir.Val.{Fits}
 use lib.ListN.{length, getD}
 use Rattle.scope.specs.Base as base
 use Rattle.scope.specs.Base.{part}
@@ -14,9 +16,9 @@ use Rattle.scope.specs.Words as wrd
 use Rattle.scope.specs.Words.{longest, shortest, shares, tooLong, overfull}
 use Rattle.scope.specs.Lookup.{tableOf}
 use Rattle.scope.specs.Frame as frm
-use Rattle.scope.specs.Frame.{lengthCheck, needOfAll}
+use Rattle.scope.specs.Frame.{lengthCheck, needOfAll, roomCheck}
 use Rattle.scope.specs.declared.Geometry.{Geometry}
-use Rattle.scope.specs.declared.Place.the-variants.{Plane}
+use Rattle.scope.specs.declared.Place.the-variants.{Plane, Nothing}
 use Rattle.scope.specs.declared.Answer.{Answer}
 use Rattle.scope.specs.declared.Answer.the-variants.{Done, Refused}
 use Rattle.words.proofs.Shortness.{shortest-most}
@@ -110,10 +112,30 @@ module _ (g : Geometry) (lengths : List ℕ) (c : Codes) (is : c ≡ codesOf g l
     unfolding codesUpTo tableStart frm.needOfAll
     need-is = ap (λ (x : Codes). x .need) known
 
+    -- a workspace of so many words is enough, which 11 finds too
+    module _ (words : ℕ) (h : c .need ≤ words) where
+      pub room-enough : needOfAll g lengths ≤ words
+      room-enough = omega (arith, need-is)
+
+      pub room-passed : Done ≡ roomCheck g lengths words
+      unfolding frm.roomCheck
+      room-passed = sym (simp (le-ltb words (needOfAll g lengths) room-enough))
+
+    -- or is not
+    pub room-refused : (words : ℕ) → words < c .need → Refused 11 Nothing ≡ roomCheck g lengths words
+    unfolding frm.roomCheck
+    room-refused words h =
+        let k : words < needOfAll g lengths = omega (arith, need-is) in
+        sym (simp (lt-ltb words (needOfAll g lengths) k))
+
     -- plane p
     module _ (p : ℕ) (l : p < planeCount g) where
       pub plane-four : p < 4
       plane-four = omega (arith, l, planes-most (g .family))
+
+      -- its place in an array
+      pub plane-offset : Fits w64 (p * 8)
+      plane-offset = record { fits = omega (arith, plane-four) }
 
       -- passes
       pub plane-passed : Done ≡ lengthCheck g lengths p

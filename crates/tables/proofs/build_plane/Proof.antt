@@ -1,7 +1,7 @@
 -- `build_plane` writes plane p's table into its stretch of the workspace (document 01, "Words and lookup").
 use Rattle.geometry.proofs.Lengths.{part-start-fits, part-end-fits, part-room, part-few}
-use Rattle.tables.proofs.Laying.{lay-offset, lay-short, lay-full, lay-longest, lay-size, lay-table}
-use Rattle.tables.proofs.Told.{plane-four, stretch-ahead, stretch-room}
+use Rattle.tables.proofs.Laying.{lay-short, lay-full, lay-longest, lay-size, lay-table}
+use Rattle.tables.proofs.Told.{plane-four, plane-offset, stretch-ahead, stretch-room}
 use borrow.Author.Needs.{needs}
 use Rattle.tables.proofs.build_plane.Statement.{statement}
 use Rattle.tables.proofs.build_plane.Tie as tie
@@ -10,19 +10,19 @@ symbol-count-requires : tie.Need-symbol-count-requires
 symbol-count-requires c κs = search needs
 
 mul-m : tie.Need-mul-m
-mul-m c = search lay-offset
+mul-m c = search plane-offset
 
 element-copy-out-m : tie.Need-element-copy-out-m
 element-copy-out-m c = search plane-four
 
 mul-from : tie.Need-mul-from
-mul-from c = search lay-offset
+mul-from c = search plane-offset
 
 element-copy-out-from : tie.Need-element-copy-out-from
 element-copy-out-from c = search plane-four
 
 mul-to : tie.Need-mul-to
-mul-to c = search lay-offset
+mul-to c = search plane-offset
 
 element-copy-out-to : tie.Need-element-copy-out-to
 element-copy-out-to c = search plane-four

@@ -1,9 +1,7 @@
 // Document 01, "Words and lookup": a table built by itself, and a reading by itself. Demand 3 is about these two.
 use builder::build_part;
-use memory::clear_u16;
 use memory::clear_u32;
 use reader::Reached;
-use reader::words_u16;
 use scope::Answer;
 use scope::Place;
 use words::Weighed;
@@ -65,12 +63,12 @@ pub(crate) fn read_built(
     requires { ⌜ Readable (lookupIn (now workspace) m (now payload)) (2 ^ 16) 0 (length (now samples)) ⌝ }
     ensures { λ r. ⌜ TableRead (lookupIn (now (workspace .entry)) m (now (payload .entry))) (now (workspace .entry)) (now (samples .entry)) r (now (workspace .exit)) (now (samples .exit)) ⌝ }
 {
-    let reached = words_u16(workspace, m, payload, 0, samples);
+    let reached = chain16::words(workspace, m, payload, 0, samples);
     clear_u32(workspace);
     match reached {
         Reached::End(end) => Answer::Done,
         Reached::Stuck(at) => {
-            clear_u16(samples);
+            buffer16::clear(samples);
             Answer::Refused(14, Place::Plane(0))
         }
     }

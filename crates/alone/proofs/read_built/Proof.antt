@@ -4,8 +4,8 @@ use borrow.Author.Needs.{needs}
 use Rattle.alone.proofs.read_built.Statement.{statement}
 use Rattle.alone.proofs.read_built.Tie as tie
 
-words-u16-requires : tie.Need-words-u16-requires
-words-u16-requires c κs = search needs
+words-requires : tie.Need-words-requires
+words-requires c κs = search needs
 
 clear-u32-requires : tie.Need-clear-u32-requires
 clear-u32-requires c κs = search needs
@@ -16,8 +16,8 @@ enum-known-reached c = search needs
 enum-known-reached-2 : tie.Need-enum-known-reached-2
 enum-known-reached-2 c = search needs
 
-clear-u16-requires : tie.Need-clear-u16-requires
-clear-u16-requires c κs = search needs
+clear-requires : tie.Need-clear-requires
+clear-requires c κs = search needs
 
 same-length : tie.Need-same-length
 same-length c = search needs
@@ -41,11 +41,11 @@ pub read-built-spec : {M : Type 1} → statement M
 read-built-spec =
     tie.close
     (tie.spec
-    words-u16-requires
+    words-requires
     clear-u32-requires
     enum-known-reached
     enum-known-reached-2
-    clear-u16-requires
+    clear-requires
     same-length
     same-length-2
     returns

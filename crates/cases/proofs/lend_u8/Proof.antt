@@ -1,0 +1,59 @@
+-- `cases::lend_u8` meets its contract: the loop gives each place what is lent there. Assumes nothing.
+use Rattle.cases.proofs.Placing.{placed, placing}
+use Rattle.memory.proofs.InPlace.{At}
+use Prim.Native.Nat.{_-_, _≤_}
+use lib.ListN.{length}
+use Rattle.cases.specs.Held.{held8, lent}
+use borrow.Author.Needs.{needs}
+use Rattle.cases.proofs.lend_u8.Statement.{statement}
+use Rattle.cases.proofs.lend_u8.Tie as tie
+use Rattle.cases.proofs.lend_u8.Reads as reads
+
+abbrev Inv-loop : tie.InvT-loop
+Inv-loop after number planes₀ i₀ planes i = At (placed (λ j. lent 255 number (held8 after j))) planes₀ planes i × (length planes₀ ≤ length after)
+
+abbrev μ-loop : tie.MeasureT-loop
+μ-loop after number planes₀ i₀ planes i = length planes₀ - i
+
+loop-holds : tie.Need-loop-holds Inv-loop μ-loop
+loop-holds c = search placing
+
+shared-slice-read-lent-u8 : tie.Need-shared-slice-read-lent-u8 Inv-loop μ-loop
+shared-slice-read-lent-u8 c = search needs
+
+lent-u8-requires : tie.Need-lent-u8-requires Inv-loop μ-loop
+lent-u8-requires c κs = search needs
+
+slice-write-planes : tie.Need-slice-write-planes Inv-loop μ-loop
+slice-write-planes c = search needs
+
+add-i : tie.Need-add-i Inv-loop μ-loop
+add-i c = search needs
+
+loop-less : tie.Need-loop-less Inv-loop μ-loop
+loop-less c = search needs
+
+loop-again : tie.Need-loop-again Inv-loop μ-loop
+loop-again c = search placing
+
+same-length : tie.Need-same-length Inv-loop μ-loop
+same-length c = search needs
+
+returns : tie.Need-returns Inv-loop μ-loop
+returns c = search placing
+
+pub lend-u8-spec : {M : Type 1} → statement M
+lend-u8-spec =
+    tie.close
+    (tie.spec
+    Inv-loop
+    μ-loop
+    loop-holds
+    shared-slice-read-lent-u8
+    lent-u8-requires
+    slice-write-planes
+    add-i
+    loop-less
+    loop-again
+    same-length
+    returns)

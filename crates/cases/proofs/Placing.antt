@@ -1,19 +1,17 @@
 -- The loop that gives each place of a list what a function says of the place: lengths, planes and workspace as they are lent; and what
 -- is lent, as src/lib.rt finds it. Assumes nothing.
 use mathlib.Core.Path.{_≡_, refl, sym, _∙_}
-use mathlib.Core.Bool.{Bool, true, false}
 use mathlib.Core.List.{List}
-use Prim.Native.Nat.{ℕ, _+_, _*_, _-_, _≤_, _<_}
+use Prim.Native.Nat.{ℕ, zero, suc, _+_, _*_, _/_, _%_, _≤_, _<_}
 use native.Mathlib.Omega.{arith}
-use borrow.Author.Needs.{needs}
-use borrow.Author.Tests.{eq-eqb, ne-eqb}
-use lib.Dec.{ltb}
+use borrow.Author.Tests.{eq-eqb, ne-eqb, lt-ltb, le-ltb}
+use lib.Bits.{bitXor, differ, xor-step}
 use lib.ListN.{length, getD, set}
 use Rattle.scope.specs.Base.{Step, listBelow}
 use Rattle.codes.proofs.Lists.{length-listFrom, getD-below}
 use Rattle.memory.proofs.InPlace.{At, at-step, at-end, rebuilt-only, sweeps}
 use Rattle.cases.specs.Held as held
-use Rattle.cases.specs.Held.{asFound, held8, held16, lent, lentWord, wordAfter}
+use Rattle.cases.specs.Held.{flipOf, lent8, lent16, lentWord, wordAfter}
 
 unfoldable pub placed : (ℕ → ℕ) → Step
 placed f i before x = f i
@@ -32,52 +30,53 @@ module _ (f : ℕ → ℕ) (xs s : List ℕ) (i : ℕ) (a : At (placed f) xs s i
 -- ---- what is lent
 
 module _ (number : ℕ) where
-  pub found-planes : number ≡ 0 → false ≡ asFound number
-  unfolding held.asFound
-  found-planes h = rw (eq-eqb number 0 h)
+  pub flip-planes : number ≡ 0 → 255 ≡ flipOf number
+  unfolding held.flipOf held.asFound
+  flip-planes h = rw (eq-eqb number 0 h)
 
-  pub found-refused : (number ≡ 0 → ⊥) → ltb number 5 ≡ asFound number
-  unfolding held.asFound
-  found-refused h = rw (ne-eqb number 0 h)
+  pub word-planes : number ≡ 0 → 0 ≡ wordAfter number
+  unfolding held.wordAfter held.asFound
+  word-planes h = rw (eq-eqb number 0 h)
 
-  module _ (found : Bool) (e : found ≡ asFound number) where
-    pub lent-found : (most x : ℕ) → found ≡ true → x ≡ lent most number x
-    unfolding held.lent
-    lent-found most x h = rw (← e, h)
+  module _ (n0 : number ≡ 0 → ⊥) where
+    pub flip-found : number < 5 → 0 ≡ flipOf number
+    unfolding held.flipOf held.asFound
+    flip-found h = rw (ne-eqb number 0 n0, lt-ltb number 5 h)
 
-    pub lent-other : (most x : ℕ) → found ≡ false → most - x ≡ lent most number x
-    unfolding held.lent
-    lent-other most x h = rw (← e, h)
+    pub flip-zero : 5 ≤ number → 255 ≡ flipOf number
+    unfolding held.flipOf held.asFound
+    flip-zero h = rw (ne-eqb number 0 n0, le-ltb number 5 h)
 
-    pub word-found : found ≡ true → 2779096485 ≡ wordAfter number
-    unfolding held.wordAfter held.lentWord
-    word-found h = rw (← e, h)
+    pub word-found : number < 5 → 2779096485 ≡ wordAfter number
+    unfolding held.wordAfter held.asFound held.lentWord
+    word-found h = rw (ne-eqb number 0 n0, lt-ltb number 5 h)
 
-    pub word-other : found ≡ false → 0 ≡ wordAfter number
-    unfolding held.wordAfter
-    word-other h = rw (← e, h)
+    pub word-zero : 5 ≤ number → 0 ≡ wordAfter number
+    unfolding held.wordAfter held.asFound
+    word-zero h = rw (ne-eqb number 0 n0, le-ltb number 5 h)
 
--- a decoder that leaves a sample as it found it leaves another than it must, but for 1 to 4: the largest number is odd
-pub lent-differs : (number held k : ℕ) → false ≡ asFound number → held ≤ 2 * k + 1 → lent (2 * k + 1) number held ≡ held → ⊥
-unfolding held.lent
-lent-differs number x k e h d = other (rw (← e) at d)
+pub ruleset numbered = (flip-planes, flip-found, flip-zero, word-planes, word-found, word-zero)
+
+module _ (after : List ℕ) (number i : ℕ) (flip : ℕ) (e : flip ≡ flipOf number) where
+  pub lent8-is : bitXor (getD after i 0) flip ≡ lent8 after (flipOf number) i
+  unfolding held.lent8
+  lent8-is = rw e
+
+  pub lent16-is : (v : ℕ) → v ≡ bitXor (getD after (2 * i) 0) flip + 256 * bitXor (getD after (2 * i + 1) 0) flip → v ≡ lent16 after (flipOf number) i
+  unfolding held.lent16
+  lent16-is v h = h ∙ rw e
+
+-- a decoder that leaves a byte as it found it leaves another than it must, but for 1 to 4
+pub flipped-differs : (x : ℕ) → bitXor x 255 ≡ x → ⊥
+flipped-differs x e = clash (x % 2) refl (sym e ∙ xor-step x 255)
   where
-    other : 2 * k + 1 - x ≡ x → ⊥
-    other q = omega arith
-
-module _ (after : List ℕ) (number i : ℕ) where
-  pub lent8-is : (v : ℕ) → v ≡ lent 255 number (getD after i 0) → v ≡ lent 255 number (held8 after i)
-  unfolding held.held8
-  lent8-is v e = e
-
-  pub lent16-is : (v x : ℕ) → x ≡ getD after (2 * i) 0 + 256 * getD after (2 * i + 1) 0 → v ≡ lent 65535 number x → v ≡ lent 65535 number (held16 after i)
-  unfolding held.held16
-  lent16-is v x d e = e ∙ rw d
+    clash : (d : ℕ) → x % 2 ≡ d → x ≡ bitXor (x / 2) (255 / 2) * 2 + differ d (255 % 2) → ⊥
+    clash zero h k = omega arith
+    clash (suc zero) h k = omega arith
+    clash (suc (suc d)) h k = omega arith
 
 pub word-is : 2779096485 ≡ lentWord
 unfolding held.lentWord
 word-is = refl
-
-pub ruleset lending = (found-planes, found-refused, lent-found, lent-other, word-found, word-other, needs)
 
 pub ruleset placing = (place-step, place-end, lent8-is, lent16-is, word-is, sweeps)

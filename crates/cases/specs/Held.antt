@@ -1,9 +1,10 @@
 -- What memory is lent with for a stored case, what it must hold afterwards, and the verdict. Document 01, "Refusal numbers": planes
 -- and a workspace of zeros; everything as found after 1 to 4; both wholly zero after any other. Assumes nothing.
-use Prim.Native.Nat.{ℕ, zero, suc, _+_, _*_, _-_}
+use Prim.Native.Nat.{ℕ, zero, suc, _+_, _*_}
 use mathlib.Core.Bool.{Bool, true, false, cond, _&&_}
 use mathlib.Core.List.{List}
 use lib.ListN.{getD}
+use lib.Bits.{bitXor}
 use lib.Dec.{eqb, ltb}
 use Rattle.cases.specs.declared.Told.{Told}
 use Rattle.cases.specs.declared.Verdict.{Verdict}
@@ -20,9 +21,16 @@ held8 after i = getD after i 0
 unfoldable pub held16 : List ℕ → ℕ → ℕ
 held16 after i = getD after (2 * i) 0 + 256 * getD after (2 * i + 1) 0
 
--- what is lent there: the same where memory is left as found, else its complement, of the largest number that the place holds
-unfoldable pub lent : ℕ → ℕ → ℕ → ℕ
-lent most number held = cond (asFound number) held (most - held)
+-- the bits that are lent flipped: none where memory is left as found, else all
+unfoldable pub flipOf : ℕ → ℕ
+flipOf number = cond (asFound number) 0 255
+
+-- what is lent there
+unfoldable pub lent8 : List ℕ → ℕ → ℕ → ℕ
+lent8 after flip i = bitXor (getD after i 0) flip
+
+unfoldable pub lent16 : List ℕ → ℕ → ℕ → ℕ
+lent16 after flip i = bitXor (getD after (2 * i) 0) flip + 256 * bitXor (getD after (2 * i + 1) 0) flip
 
 -- every word of the workspace before, and after
 unfoldable pub lentWord : ℕ

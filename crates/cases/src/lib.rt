@@ -5,13 +5,13 @@
 // refusals 1 to 4, which leave memory as found, they are lent with it.
 use layout::le32_at;
 ghost use mathlib.Core.Path.{_≡_};
-ghost use Prim.Native.Nat.{_+_, _*_, _-_, _/_, _%_, _≤_, _<_};
-ghost use lib.ListN.{length, getD};
+ghost use Prim.Native.Nat.{_+_, _*_, _/_, _≤_};
+ghost use lib.ListN.{length};
 ghost use lib.Dec.{leb};
 ghost use Rattle.scope.specs.Base.{listBelow, one};
 ghost use Rattle.scope.specs.Layout.{le32};
 ghost use Rattle.cases.specs.Form.{shapeOf, storedOf, caseOf, runOf, lengthAt};
-ghost use Rattle.cases.specs.Held.{asFound, held8, held16, lent, lentWord, wordAfter, agrees, verdictOf};
+ghost use Rattle.cases.specs.Held.{flipOf, held8, held16, lent8, lent16, lentWord, wordAfter, agrees, verdictOf};
 
 // ---- the form
 
@@ -116,7 +116,7 @@ fn run_of(runs: &[u8], k: usize) -> usize
     0
 }
 
-// 1 where the run has ended before place i.
+// 1 where the run has ended before place i, else 0.
 fn is_over(run: usize, i: usize) -> usize
     ensures { λ r. ⌜ (r ≡ one (leb (run / 256) i)) × (r ≤ 1) ⌝ }
 {
@@ -142,32 +142,18 @@ pub fn spread(runs: &[u8], lengths: &mut [u8])
 
 // ---- before the call
 
-// Whether an answer of this number leaves memory as it was found.
-fn as_found(number: u32) -> bool
-    ensures { λ r. ⌜ r ≡ asFound number ⌝ }
+// Which bits of what a byte of the planes must hold afterwards are lent flipped: none where a refusal of this number leaves memory
+// as found, else all.
+fn flip_of(number: u32) -> u8
+    ensures { λ r. ⌜ r ≡ flipOf number ⌝ }
 {
     if number == 0 {
-        return false;
+        return 255;
     }
-    number < 5
-}
-
-fn lent_u8(held: u8, number: u32) -> u8
-    ensures { λ r. ⌜ r ≡ lent 255 number held ⌝ }
-{
-    if as_found(number) {
-        return held;
+    if number < 5 {
+        return 0;
     }
-    255 - held
-}
-
-fn lent_u16(held: u16, number: u32) -> u16
-    ensures { λ r. ⌜ r ≡ lent 65535 number held ⌝ }
-{
-    if as_found(number) {
-        return held;
-    }
-    65535 - held
+    255
 }
 
 // The 16-bit sample of two bytes, the low one first.
@@ -180,11 +166,12 @@ fn two_bytes(low: u8, high: u8) -> u16
 // The planes of a case whose stored answer has this number, where `after` is what they must hold afterwards.
 pub fn lend_u8(after: &[u8], number: u32, planes: &mut [u8])
     requires { ⌜ length (now planes) ≤ length (now after) ⌝ }
-    ensures { λ _. ⌜ now (planes .exit) ≡ listBelow (length (now (planes .entry))) (λ i. lent 255 number (held8 (now (after .entry)) i)) ⌝ }
+    ensures { λ _. ⌜ now (planes .exit) ≡ listBelow (length (now (planes .entry))) (lent8 (now (after .entry)) (flipOf number)) ⌝ }
 {
+    let flip = flip_of(number);
     let mut i = 0;
     while i < planes.len() {
-        planes[i] = lent_u8(after[i], number);
+        planes[i] = after[i] ^ flip;
         i += 1;
     }
 }
@@ -192,11 +179,12 @@ pub fn lend_u8(after: &[u8], number: u32, planes: &mut [u8])
 // The same for 16-bit samples.
 pub fn lend_u16(after: &[u8], number: u32, planes: &mut [u16])
     requires { ⌜ 2 * length (now planes) ≤ length (now after) ⌝ }
-    ensures { λ _. ⌜ now (planes .exit) ≡ listBelow (length (now (planes .entry))) (λ i. lent 65535 number (held16 (now (after .entry)) i)) ⌝ }
+    ensures { λ _. ⌜ now (planes .exit) ≡ listBelow (length (now (planes .entry))) (lent16 (now (after .entry)) (flipOf number)) ⌝ }
 {
+    let flip = flip_of(number);
     let mut i = 0;
     while i < planes.len() {
-        planes[i] = lent_u16(two_bytes(after[2 * i], after[2 * i + 1]), number);
+        planes[i] = two_bytes(after[2 * i] ^ flip, after[2 * i + 1] ^ flip);
         i += 1;
     }
 }
@@ -249,7 +237,10 @@ pub fn holds_u16(planes: &[u16], after: &[u8]) -> bool
 fn word_after(number: u32) -> u32
     ensures { λ r. ⌜ r ≡ wordAfter number ⌝ }
 {
-    if as_found(number) {
+    if number == 0 {
+        return 0;
+    }
+    if number < 5 {
         return 2779096485;
     }
     0

@@ -3,7 +3,6 @@ use Rattle.cases.proofs.Forms.{case-is}
 use borrow.Author.Needs.{needs}
 use Rattle.cases.proofs.case_of.Statement.{statement}
 use Rattle.cases.proofs.case_of.Tie as tie
-use Rattle.cases.proofs.case_of.Reads as reads
 
 shape-of-requires : tie.Need-shape-of-requires
 shape-of-requires c κs = search needs

@@ -8,7 +8,6 @@ use Rattle.cases.specs.Held.{held16, agrees}
 use borrow.Author.Needs.{needs}
 use Rattle.cases.proofs.holds_u16.Statement.{statement}
 use Rattle.cases.proofs.holds_u16.Tie as tie
-use Rattle.cases.proofs.holds_u16.Reads as reads
 
 abbrev Inv-loop : tie.InvT-loop
 Inv-loop planes after i₀ i = (true ≡ agrees (held16 after) planes i) × (i ≤ length planes) × (2 * length planes ≤ length after)

@@ -8,7 +8,6 @@ use Rattle.cases.specs.Held.{wordAfter, agrees}
 use borrow.Author.Needs.{needs}
 use Rattle.cases.proofs.holds_words.Statement.{statement}
 use Rattle.cases.proofs.holds_words.Tie as tie
-use Rattle.cases.proofs.holds_words.Reads as reads
 
 abbrev Inv-loop : tie.InvT-loop
 Inv-loop words number word i₀ i = (true ≡ agrees (λ j. wordAfter number) words i) × (i ≤ length words) × (word ≡ wordAfter number)

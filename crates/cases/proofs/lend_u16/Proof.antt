@@ -3,17 +3,20 @@ use Rattle.cases.proofs.Placing.{placed, placing}
 use Rattle.memory.proofs.InPlace.{At}
 use Prim.Native.Nat.{_-_, _*_, _≤_}
 use lib.ListN.{length}
-use Rattle.cases.specs.Held.{held16, lent}
+use mathlib.Core.Path.{_≡_}
+use Rattle.cases.specs.Held.{flipOf, lent16}
 use borrow.Author.Needs.{needs}
 use Rattle.cases.proofs.lend_u16.Statement.{statement}
 use Rattle.cases.proofs.lend_u16.Tie as tie
-use Rattle.cases.proofs.lend_u16.Reads as reads
 
 abbrev Inv-loop : tie.InvT-loop
-Inv-loop after number planes₀ i₀ planes i = At (placed (λ j. lent 65535 number (held16 after j))) planes₀ planes i × (2 * length planes₀ ≤ length after)
+Inv-loop after number planes₀ flip i₀ planes i = (flip ≡ flipOf number) × At (placed (lent16 after (flipOf number))) planes₀ planes i × (2 * length planes₀ ≤ length after)
 
 abbrev μ-loop : tie.MeasureT-loop
-μ-loop after number planes₀ i₀ planes i = length planes₀ - i
+μ-loop after number planes₀ flip i₀ planes i = length planes₀ - i
+
+flip-of-requires : tie.Need-flip-of-requires Inv-loop μ-loop
+flip-of-requires c κs = search needs
 
 loop-holds : tie.Need-loop-holds Inv-loop μ-loop
 loop-holds c = search placing
@@ -35,9 +38,6 @@ shared-slice-read-two-bytes-2 c = search needs
 
 two-bytes-requires : tie.Need-two-bytes-requires Inv-loop μ-loop
 two-bytes-requires c κs = search needs
-
-lent-u16-requires : tie.Need-lent-u16-requires Inv-loop μ-loop
-lent-u16-requires c κs = search needs
 
 mul-planes : tie.Need-mul-planes Inv-loop μ-loop
 mul-planes c = search needs
@@ -66,6 +66,7 @@ lend-u16-spec =
     (tie.spec
     Inv-loop
     μ-loop
+    flip-of-requires
     loop-holds
     mul-two-bytes
     shared-slice-read-two-bytes
@@ -73,7 +74,6 @@ lend-u16-spec =
     add-two-bytes
     shared-slice-read-two-bytes-2
     two-bytes-requires
-    lent-u16-requires
     mul-planes
     slice-write-planes
     add-i

@@ -3,26 +3,26 @@ use Rattle.cases.proofs.Placing.{placed, placing}
 use Rattle.memory.proofs.InPlace.{At}
 use Prim.Native.Nat.{_-_, _≤_}
 use lib.ListN.{length}
-use Rattle.cases.specs.Held.{held8, lent}
+use mathlib.Core.Path.{_≡_}
+use Rattle.cases.specs.Held.{flipOf, lent8}
 use borrow.Author.Needs.{needs}
 use Rattle.cases.proofs.lend_u8.Statement.{statement}
 use Rattle.cases.proofs.lend_u8.Tie as tie
-use Rattle.cases.proofs.lend_u8.Reads as reads
 
 abbrev Inv-loop : tie.InvT-loop
-Inv-loop after number planes₀ i₀ planes i = At (placed (λ j. lent 255 number (held8 after j))) planes₀ planes i × (length planes₀ ≤ length after)
+Inv-loop after number planes₀ flip i₀ planes i = (flip ≡ flipOf number) × At (placed (lent8 after (flipOf number))) planes₀ planes i × (length planes₀ ≤ length after)
 
 abbrev μ-loop : tie.MeasureT-loop
-μ-loop after number planes₀ i₀ planes i = length planes₀ - i
+μ-loop after number planes₀ flip i₀ planes i = length planes₀ - i
+
+flip-of-requires : tie.Need-flip-of-requires Inv-loop μ-loop
+flip-of-requires c κs = search needs
 
 loop-holds : tie.Need-loop-holds Inv-loop μ-loop
 loop-holds c = search placing
 
-shared-slice-read-lent-u8 : tie.Need-shared-slice-read-lent-u8 Inv-loop μ-loop
-shared-slice-read-lent-u8 c = search needs
-
-lent-u8-requires : tie.Need-lent-u8-requires Inv-loop μ-loop
-lent-u8-requires c κs = search needs
+shared-slice-read-planes : tie.Need-shared-slice-read-planes Inv-loop μ-loop
+shared-slice-read-planes c = search needs
 
 slice-write-planes : tie.Need-slice-write-planes Inv-loop μ-loop
 slice-write-planes c = search needs
@@ -48,9 +48,9 @@ lend-u8-spec =
     (tie.spec
     Inv-loop
     μ-loop
+    flip-of-requires
     loop-holds
-    shared-slice-read-lent-u8
-    lent-u8-requires
+    shared-slice-read-planes
     slice-write-planes
     add-i
     loop-less

@@ -3,7 +3,7 @@ use Rattle.cases.proofs.Placing.{placed, placing}
 use Rattle.memory.proofs.InPlace.{At}
 use Prim.Native.Nat.{_-_}
 use lib.ListN.{length}
-use Rattle.cases.specs.Held.{lent, lentWord}
+use Rattle.cases.specs.Held.{lentWord}
 use borrow.Author.Needs.{needs}
 use Rattle.cases.proofs.lend_words.Statement.{statement}
 use Rattle.cases.proofs.lend_words.Tie as tie

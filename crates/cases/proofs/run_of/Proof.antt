@@ -3,7 +3,6 @@ use Rattle.cases.proofs.Forms.{runs}
 use borrow.Author.Needs.{needs}
 use Rattle.cases.proofs.run_of.Statement.{statement}
 use Rattle.cases.proofs.run_of.Tie as tie
-use Rattle.cases.proofs.run_of.Reads as reads
 
 mul-le32-at : tie.Need-mul-le32-at
 mul-le32-at c = search needs

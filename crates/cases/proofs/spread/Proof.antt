@@ -9,7 +9,6 @@ use Rattle.cases.specs.Form.{runAt, lengthAt}
 use borrow.Author.Needs.{needs}
 use Rattle.cases.proofs.spread.Statement.{statement}
 use Rattle.cases.proofs.spread.Tie as tie
-use Rattle.cases.proofs.spread.Reads as reads
 
 abbrev Inv-loop : tie.InvT-loop
 Inv-loop runs lengths₀ k₀ i₀ lengths k i = At (placed (lengthAt runs)) lengths₀ lengths i × (k ≡ runAt runs i) × (k ≤ i)

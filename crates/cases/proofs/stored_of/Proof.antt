@@ -3,7 +3,6 @@ use Rattle.cases.proofs.Forms.{stored-is}
 use borrow.Author.Needs.{needs}
 use Rattle.cases.proofs.stored_of.Statement.{statement}
 use Rattle.cases.proofs.stored_of.Tie as tie
-use Rattle.cases.proofs.stored_of.Reads as reads
 
 number-at-requires : tie.Need-number-at-requires
 number-at-requires c κs = search needs

@@ -41,7 +41,7 @@ module _ (case : List ℕ) where
 
   pub case-is : (t : Told) (g : Shape) (e w n l a f z : ℕ) → t ≡ storedOf case → g ≡ shapeOf case → e ≡ le32 case 0 → w ≡ le32 case 36
       → n ≡ le32 case 40 → l ≡ le32 case 44 → a ≡ le32 case 60 → f ≡ le32 case 64 → z ≡ le32 case 68
-      → numbers e g w n l t (72 + a) (72 + a + f) (72 + a + f + z) ≡ caseOf case
+      → numbers e g w n l t (76 + a) (76 + a + f) (76 + a + f + z) ≡ caseOf case
   unfolding form.caseOf
   case-is t g e w n l a f z et eg ee ew en el ea ef ez = rw (et, eg, ee, ew, en, el, ea, ef, ez)
 

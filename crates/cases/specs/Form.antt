@@ -27,7 +27,7 @@ shapeOf case =
 unfoldable pub storedOf : List ℕ → Told
 storedOf case = record { number = le32 case 48; kind = le32 case 52; place = le32 case 56 }
 
--- eighteen numbers; then the runs, what the planes must hold afterwards, and the frame, of so many bytes each
+-- nineteen numbers, the last of which is not read; then the runs, what the planes must hold afterwards, and the frame, of so many bytes each
 unfoldable pub caseOf : List ℕ → Case
 caseOf case =
     record {
@@ -37,9 +37,9 @@ caseOf case =
       samples = le32 case 40;
       lengths = le32 case 44;
       stored = storedOf case;
-      after = 72 + le32 case 60;
-      frame = 72 + le32 case 60 + le32 case 64;
-      end = 72 + le32 case 60 + le32 case 64 + le32 case 68;
+      after = 76 + le32 case 60;
+      frame = 76 + le32 case 60 + le32 case 64;
+      end = 76 + le32 case 60 + le32 case 64 + le32 case 68;
     }
 
 -- run k: 256 times the place after its last, and its length; past the last run 0

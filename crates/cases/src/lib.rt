@@ -35,7 +35,7 @@ pub struct Told {
 }
 
 // The numbers of a case: the entry, 8 or 16, and its geometry; how much is lent; the stored answer; and where in the case what the
-// planes must hold afterwards begins, then the frame, and where the case ends. The runs of lengths begin at 72.
+// planes must hold afterwards begins, then the frame, and where the case ends. The runs of lengths begin at 76.
 pub struct Case {
     pub entry: u32,
     pub shape: Shape,
@@ -56,7 +56,7 @@ fn number_at(case: &[u8], at: usize) -> u32
 }
 
 fn shape_of(case: &[u8]) -> Shape
-    requires { ⌜ 72 ≤ length (now case) ⌝ }
+    requires { ⌜ 76 ≤ length (now case) ⌝ }
     ensures { λ r. ⌜ r ≡ shapeOf (now (case .entry)) ⌝ }
 {
     Shape {
@@ -72,7 +72,7 @@ fn shape_of(case: &[u8]) -> Shape
 }
 
 fn stored_of(case: &[u8]) -> Told
-    requires { ⌜ 72 ≤ length (now case) ⌝ }
+    requires { ⌜ 76 ≤ length (now case) ⌝ }
     ensures { λ r. ⌜ r ≡ storedOf (now (case .entry)) ⌝ }
 {
     Told {
@@ -84,13 +84,13 @@ fn stored_of(case: &[u8]) -> Told
 
 // The numbers at the front of a case.
 pub fn case_of(case: &[u8]) -> Case
-    requires { ⌜ 72 ≤ length (now case) ⌝ }
+    requires { ⌜ 76 ≤ length (now case) ⌝ }
     ensures case { λ r. ⌜ r ≡ caseOf (now (case .entry)) ⌝ }
-    ensures ordered { λ r. ⌜ (72 ≤ r .after) × (r .after ≤ r .frame) × (r .frame ≤ r .end) ⌝ }
+    ensures ordered { λ r. ⌜ (76 ≤ r .after) × (r .after ≤ r .frame) × (r .frame ≤ r .end) ⌝ }
 {
     let shape = shape_of(case);
     let stored = stored_of(case);
-    let after = 72 + le32_at(case, 60);
+    let after = 76 + le32_at(case, 60);
     let frame = after + le32_at(case, 64);
     let end = frame + le32_at(case, 68);
     Case {

@@ -1,61 +1,27 @@
-// The code lengths of the demo's frames: 2^depth a plane, planes in wire order, 0 meaning no word. Beside each length stands the
-// word that document 01 gives the symbol, taking lengths from the longest down.
+// The codes of the program's frames: for each symbol that has a word three bytes, its place among the lengths (2^depth a plane,
+// planes in wire order; the high byte first) and its length. Beside each stands the word that document 01 gives the symbol, taking
+// lengths from the longest down.
 
 // Planes B', G and R' of frames::RGB. G has no word: its slices are raw.
-pub(crate) fn rgb() -> [u8; 768] {
-    let mut lengths = [0u8; 768];
-    // B'
-    lengths[0] = 1; // 1
-    lengths[1] = 2; // 00
-    lengths[16] = 2; // 01
-    // R'
-    lengths[512] = 1; // 1
-    lengths[512 + 106] = 3; // 000
-    lengths[512 + 254] = 2; // 01
-    lengths[512 + 255] = 3; // 001
-    lengths
-}
+//   B'  0: 1, 1: 00, 16: 01
+//   R'  0: 1, 106: 000, 254: 01, 255: 001
+pub const RGB: [u8; 21] = *b"\
+    \x00\x00\x01\x00\x01\x02\x00\x10\x02\
+    \x02\x00\x01\x02\x6a\x03\x02\xfe\x02\x02\xff\x03";
 
 // Planes Y, U and V of frames::YUV. V's code is not complete: no word begins with 1.
-pub(crate) fn yuv() -> [u8; 768] {
-    let mut lengths = [0u8; 768];
-    luma(&mut lengths);
-    // U
-    lengths[256 + 128] = 3; // 000
-    lengths[256 + 129] = 3; // 001
-    lengths[256 + 255] = 1; // 1
-    // V
-    lengths[512 + 2] = 2; // 00
-    lengths[512 + 92] = 2; // 01
-    lengths
-}
-
-// Plane Y of frames::YUV.
-fn luma(lengths: &mut [u8; 768]) {
-    lengths[0] = 2; // 10
-    lengths[1] = 4; // 0010
-    lengths[2] = 2; // 11
-    lengths[3] = 5; // 00000
-    lengths[10] = 5; // 00001
-    lengths[16] = 5; // 00010
-    lengths[90] = 5; // 00011
-    lengths[190] = 4; // 0011
-    lengths[200] = 4; // 0100
-    lengths[202] = 4; // 0101
-    lengths[255] = 3; // 011
-}
+//   Y  0: 10, 1: 0010, 2: 11, 3: 00000, 10: 00001, 16: 00010, 90: 00011, 190: 0011, 200: 0100, 202: 0101, 255: 011
+//   U  128: 000, 129: 001, 255: 1
+//   V  2: 00, 92: 01
+pub const YUV: [u8; 48] = *b"\
+    \x00\x00\x02\x00\x01\x04\x00\x02\x02\x00\x03\x05\x00\x0a\x05\x00\x10\x05\x00\x5a\x05\x00\xbe\x04\x00\xc8\x04\x00\xca\x04\x00\xff\x03\
+    \x01\x80\x03\x01\x81\x03\x01\xff\x01\
+    \x02\x02\x02\x02\x5c\x02";
 
 // The plane of frames::DEEP. Words of 13 and 14 bits: the lookup needs its second level.
-pub(crate) fn deep() -> [u8; 1024] {
-    let mut lengths = [0u8; 1024];
-    lengths[0] = 1; // 1
-    lengths[10] = 3; // 010
-    lengths[20] = 4; // 0010
-    lengths[90] = 5; // 00001
-    lengths[100] = 14; // 00000000000000
-    lengths[190] = 5; // 00010
-    lengths[200] = 14; // 00000000000001
-    lengths[700] = 13; // 0000000000001
-    lengths[1023] = 3; // 011
-    lengths
-}
+//   0: 1, 10: 010, 20: 0010, 90: 00001, 100: 00000000000000, 190: 00010, 200: 00000000000001, 700: 0000000000001, 1023: 011
+pub const DEEP: [u8; 27] = *b"\
+    \x00\x00\x01\x00\x0a\x03\x00\x14\x04\x00\x5a\x05\x00\x64\x0e\x00\xbe\x05\x00\xc8\x0e\x02\xbc\x0d\x03\xff\x03";
+
+// 256 lengths, and no word.
+pub const NONE: [u8; 256] = [0; 256];

@@ -3,7 +3,7 @@
 // the plane buffer, and whether the workspace is zero. Samples are 170 throughout before each call, and the workspace 9, so that
 // nothing printed can be what was there. The file stdout beside src/ has what must be printed: the pictures that the frames were
 // made from, and what document 01 says.
-mod codes;
+mod coded;
 mod frames;
 mod put;
 
@@ -44,7 +44,7 @@ fn set_length(lengths: &mut [u8], high: u8, low: u8, length: u8) {
     }
 }
 
-// The lengths of a code (codes.rt), in memory that is zero.
+// The lengths of a code (coded.rt), in memory that is zero.
 fn set_lengths(code: &[u8], lengths: &mut [u8]) {
     let mut i = 0;
     while i < code.len() / 3 {
@@ -55,42 +55,17 @@ fn set_lengths(code: &[u8], lengths: &mut [u8]) {
 
 // ---- the built-in frames
 
-// A frame of three planes, the first of n samples, with five bytes of text before each.
-fn three(
-    frame: &[u8],
-    g: Geometry,
-    lengths: &[u8],
-    planes: &mut [u8],
-    workspace: &mut [u32],
-    titles: &[u8],
-    n: usize,
-)
-    requires { ⌜ (n ≤ length (now planes)) × (15 ≤ length (now titles)) ⌝ }
-{
-    put::answer(b"planes", decode8(frame, g, lengths, planes, workspace));
-    let m = n + (planes.len() - n) / 2;
-    put::samples_u8(&titles[0..5], &planes[0..n]);
-    put::samples_u8(&titles[5..10], &planes[n..m]);
-    put::samples_u8(&titles[10..15], &planes[m..]);
-    put::workspace(b"\n  workspace", workspace);
-}
-
 // Slices that do not come plane by plane, raw and coded, with every predictor; B' and R' become B and R.
 fn rgb() {
     let g = plain(Family::Rgb, 4, 4, 2, 8);
     let mut lengths = [0u8; 768];
     let mut planes = [170u8; 48];
     let mut workspace = [9u32; 13];
-    set_lengths(&codes::RGB, &mut lengths);
-    three(
-        &frames::RGB,
-        g,
-        &lengths,
-        &mut planes,
-        &mut workspace,
-        b"\n  G:\n  B:\n  R:",
-        16,
-    );
+    set_lengths(&coded::RGB, &mut lengths);
+    let a = decode8(&frames::RGB, g, &lengths, &mut planes, &mut workspace);
+    put::answer(b"planes", a);
+    put::three(b"\n  G:\n  B:\n  R:", &planes, 16);
+    put::workspace(b"\n  workspace", &workspace);
 }
 
 // Two fields, planes of two sizes, and a last place that is cut.
@@ -108,16 +83,11 @@ fn yuv() {
     let mut lengths = [0u8; 768];
     let mut planes = [170u8; 36];
     let mut workspace = [9u32; 44];
-    set_lengths(&codes::YUV, &mut lengths);
-    three(
-        &frames::YUV,
-        g,
-        &lengths,
-        &mut planes,
-        &mut workspace,
-        b"\n  Y:\n  U:\n  V:",
-        24,
-    );
+    set_lengths(&coded::YUV, &mut lengths);
+    let a = decode8(&frames::YUV, g, &lengths, &mut planes, &mut workspace);
+    put::answer(b"planes", a);
+    put::three(b"\n  Y:\n  U:\n  V:", &planes, 24);
+    put::workspace(b"\n  workspace", &workspace);
 }
 
 // The entry for 10, 12 and 14 bits, with words of up to 14 bits.
@@ -126,34 +96,48 @@ fn deep() {
     let mut lengths = [0u8; 1024];
     let mut planes = [170u16; 12];
     let mut workspace = [9u32; 4100];
-    set_lengths(&codes::DEEP, &mut lengths);
-    put::answer(
-        b"planes",
-        decode16(&frames::DEEP, g, &lengths, &mut planes, &mut workspace),
-    );
+    set_lengths(&coded::DEEP, &mut lengths);
+    let a = decode16(&frames::DEEP, g, &lengths, &mut planes, &mut workspace);
+    put::answer(b"planes", a);
     put::samples_u16(b"\n  plane 0:", &planes);
     put::workspace(b"\n  workspace", &workspace);
 }
 
-// Document 01's frame, or a spoiled form of it, on three lines or on one.
-fn gray(frame: &[u8], plane: &[u8], words: &[u8]) {
-    let g = plain(Family::Gray, 2, 1, 1, 8);
-    let lengths = [0u8; 256];
-    let mut planes = [170u8; 2];
+// A frame without words, of at most 3 planes and 3 samples.
+fn raw(
+    frame: &[u8],
+    g: Geometry,
+    planes: &mut [u8],
+    lengths: usize,
+    samples_title: &[u8],
+    words_title: &[u8],
+)
+    requires { ⌜ lengths ≤ 768 ⌝ }
+{
     let mut workspace = [9u32; 4];
-    put::answer(
-        b"planes",
-        decode8(frame, g, &lengths, &mut planes, &mut workspace),
+    let a = decode8(frame, g, &coded::NONE[0..lengths], planes, &mut workspace);
+    put::answer(b"planes", a);
+    put::samples_u8(samples_title, planes);
+    put::workspace(words_title, &workspace);
+}
+
+// Document 01's frame, or a part or a spoiled form of it, on three lines.
+fn small(title: &[u8], frame: &[u8]) {
+    let mut planes = [170u8; 2];
+    put::text(title);
+    raw(
+        frame,
+        plain(Family::Gray, 2, 1, 1, 8),
+        &mut planes,
+        256,
+        b"\n  plane 0:",
+        b"\n  workspace",
     );
-    put::samples_u8(plane, &planes);
-    put::workspace(words, &workspace);
 }
 
 fn built_in() {
-    put::text(b"Gray 2x1, 8 bits, the frame of 46 bytes: ");
-    gray(&SMALL, b"\n  plane 0:", b"\n  workspace");
-    put::text(b"the same, cut to 45 bytes: ");
-    gray(&SMALL[0..45], b"\n  plane 0:", b"\n  workspace");
+    small(b"Gray 2x1, 8 bits, the frame of 46 bytes: ", &SMALL);
+    small(b"the same, cut to 45 bytes: ", &SMALL[0..45]);
     put::text(b"Rgb 4x4, 8 bits, slices of planes 1 0 2 2 1 0: ");
     rgb();
     put::text(b"Yuv 4:2:0 4x6, 8 bits, interlaced, slices of planes 0 2 1 1 0 2: ");
@@ -201,43 +185,64 @@ fn read(title: &[u8], lengths: &[u8], payload: &[u8], n: usize)
     read_in(lengths, payload, &mut workspace, &mut samples[0..n]);
 }
 
-// Document 01's frame with one byte changed.
+// The same frame on one line.
+fn gray(title: &[u8], frame: &[u8]) {
+    let mut planes = [170u8; 2];
+    put::text(title);
+    raw(
+        frame,
+        plain(Family::Gray, 2, 1, 1, 8),
+        &mut planes,
+        256,
+        b"; samples",
+        b"; workspace",
+    );
+}
+
+// With one byte changed.
 fn spoiled(title: &[u8], at: usize, byte: u8)
     requires { ⌜ at < 46 ⌝ }
 {
     let mut frame = SMALL;
     frame[at] = byte;
-    put::text(title);
-    gray(&frame, b"; samples", b"; workspace");
+    gray(title, &frame);
 }
 
-// The dot, with the plane indices p, q and r.
-fn dot(title: &[u8], p: u8, q: u8, r: u8) {
-    let g = plain(Family::Rgb, 1, 1, 1, 8);
-    let lengths = [0u8; 768];
+fn dot(title: &[u8], frame: &[u8]) {
     let mut planes = [170u8; 3];
-    let mut workspace = [9u32; 4];
-    let mut frame = frames::DOT;
-    frame[49] = p;
-    frame[50] = q;
-    frame[51] = r;
     put::text(title);
-    put::answer(
-        b"planes",
-        decode8(&frame, g, &lengths, &mut planes, &mut workspace),
+    raw(
+        frame,
+        plain(Family::Rgb, 1, 1, 1, 8),
+        &mut planes,
+        768,
+        b"; samples",
+        b"; workspace",
     );
-    put::samples_u8(b"; samples", &planes);
-    put::workspace(b"; workspace", &workspace);
 }
 
-// Needs: one word fewer is refused. Words: under 13 1 they are thirteen zeros and 1, so that twelve zeros and a one begin none; under
-// 1 2 2 the sixth sample comes from past the end.
-fn tables() {
-    build(b"lengths all zero, 0 words lent: ", &codes::NONE, 0, 1);
-    build(b"lengths all zero, 1 word lent: ", &codes::NONE, 1, 1);
+// Needs: one word fewer is refused.
+fn needs() {
+    build(
+        b"lengths all zero, 0 words lent: ",
+        &coded::NONE[0..256],
+        0,
+        1,
+    );
+    build(
+        b"lengths all zero, 1 word lent: ",
+        &coded::NONE[0..256],
+        1,
+        1,
+    );
     build(b"lengths 13 1, 4097 words lent: ", b"\x0d\x01", 4097, 4098);
     build(b"lengths 13 1, 4098 words lent: ", b"\x0d\x01", 4098, 4098);
     build(b"lengths 13 1, 4100 words lent: ", b"\x0d\x01", 4100, 4098);
+}
+
+// Words: under 13 1 they are thirteen zeros and 1, so that twelve zeros and a one begin none; under 1 2 2 the sixth sample comes from
+// past the end.
+fn words() {
     read(b"lengths 13 1, bytes 00 04: ", b"\x0d\x01", b"\x00\x04", 2);
     read(b"lengths 13 1, bytes 80 02: ", b"\x0d\x01", b"\x80\x02", 3);
     read(b"lengths 13 1, bytes 00 08: ", b"\x0d\x01", b"\x00\x08", 1);
@@ -247,21 +252,20 @@ fn tables() {
 
 // Whole frames.
 fn whole() {
-    put::text(b"the frame of 46 bytes: ");
-    gray(&SMALL, b"; samples", b"; workspace");
-    put::text(b"cut to 45 bytes: ");
-    gray(&SMALL[0..45], b"; samples", b"; workspace");
+    gray(b"the frame of 46 bytes: ", &SMALL);
+    gray(b"cut to 45 bytes: ", &SMALL[0..45]);
     spoiled(b"predictor byte 0: ", 43, 0);
     spoiled(b"entry 1 of 7: ", 36, 7);
     spoiled(b"entry 1 of 8: ", 36, 8);
     spoiled(b"entry 1 of 9: ", 36, 9);
     spoiled(b"count byte 2: ", 40, 2);
-    dot(b"Rgb, K = 1, indices 0 1 2: ", 0, 1, 2);
-    dot(b"Rgb, K = 1, indices 0 0 1: ", 0, 0, 1);
+    dot(b"Rgb, K = 1, indices 0 1 2: ", &frames::DOT);
+    dot(b"Rgb, K = 1, indices 0 0 1: ", &frames::TWICE);
 }
 
 fn main() {
     built_in();
-    tables();
+    needs();
+    words();
     whole();
 }

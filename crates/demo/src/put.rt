@@ -1,6 +1,8 @@
 // What the program prints: answers, samples, and what a workspace holds that held 9 throughout. Nothing is proved of the text.
 use scope::Answer;
 use scope::Place;
+ghost use Prim.Native.Nat.{_≤_};
+ghost use lib.ListN.{length};
 
 pub(crate) fn text(text: &[u8]) {
     io::write_all(1, text);
@@ -51,6 +53,16 @@ pub(crate) fn samples_u16(title: &[u8], samples: &[u16]) {
         sample_u16(samples[i]);
         i += 1;
     }
+}
+
+// Three planes, the first of n samples and the others of one size, with five bytes of text before each.
+pub(crate) fn three(titles: &[u8], planes: &[u8], n: usize)
+    requires { ⌜ (n ≤ length (now planes)) × (15 ≤ length (now titles)) ⌝ }
+{
+    let m = n + (planes.len() - n) / 2;
+    samples_u8(&titles[0..5], &planes[0..n]);
+    samples_u8(&titles[5..10], &planes[n..m]);
+    samples_u8(&titles[10..15], &planes[m..]);
 }
 
 fn every(words: &[u32], v: u32) -> bool {

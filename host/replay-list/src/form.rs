@@ -106,10 +106,19 @@ fn lengths(runs: &[u8]) -> Option<Vec<u8>> {
     Some(out)
 }
 
+/// Bytes of an element.
+fn width(entry: Entry) -> usize {
+    if entry == Entry::Eight {
+        1
+    } else {
+        2
+    }
+}
+
 /// What the planes hold afterwards. For refusals 1 to 4 that is what is lent: bytes that are neither
 /// all the same nor all zero.
 fn after(case: &Case) -> Vec<u8> {
-    let bytes = case.elements * if case.entry == Entry::Eight { 1 } else { 2 };
+    let bytes = case.elements * width(case.entry);
     match (case.answer.number(), case.entry) {
         (0, Entry::Eight) => case.samples.iter().map(|s| *s as u8).collect(),
         (0, Entry::Sixteen) => case.samples.iter().flat_map(|s| s.to_le_bytes()).collect(),
@@ -184,7 +193,8 @@ fn case(r: &mut Reader) -> Option<Case> {
     let frame = r.part(sizes[2])?.to_vec();
     let (words, elements) = (words as usize, elements as usize);
     let case = Case { entry, numbers, words, elements, answer, source, lengths, samples, frame };
-    (case.lengths.len() == count as usize && after(&case) == held).then_some(case)
+    let whole = case.lengths.len() == count as usize && held.len() == elements * width(entry);
+    whole.then_some(case)
 }
 
 fn numbers(r: &mut Reader) -> Option<Numbers> {
@@ -244,12 +254,14 @@ mod tests {
     }
 
     #[test]
-    fn a_list_comes_back_and_every_cut_is_refused() {
+    fn a_list_comes_back_and_every_cut_within_a_case_is_refused() {
         let refused = Answer::Refused { number: 12, place: Place::Slice(5) };
         let cases = [sample(8, Answer::Planes), sample(14, Answer::Planes), sample(8, refused)];
         let bytes = write(&cases);
         let back = read(&bytes).expect("the form");
         assert_eq!(format!("{back:?}"), format!("{cases:?}"));
-        assert!((0..bytes.len()).all(|end| read(&bytes[..end]).is_none()));
+        let whole = |end: usize| read(&bytes[..end]).is_none_or(|cut| write(&cut).len() == end);
+        assert!((0..bytes.len()).all(whole));
+        assert_eq!((0..bytes.len()).filter(|end| read(&bytes[..*end]).is_some()).count(), 3);
     }
 }

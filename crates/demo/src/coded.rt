@@ -23,5 +23,5 @@ pub const YUV: [u8; 48] = *b"\
 pub const DEEP: [u8; 27] = *b"\
     \x00\x00\x01\x00\x0a\x03\x00\x14\x04\x00\x5a\x05\x00\x64\x0e\x00\xbe\x05\x00\xc8\x0e\x02\xbc\x0d\x03\xff\x03";
 
-// 256 lengths, and no word.
-pub const NONE: [u8; 256] = [0; 256];
+// No word, in up to three planes at depth 8.
+pub const NONE: [u8; 768] = [0; 768];

@@ -64,7 +64,9 @@ fn rgb() {
     set_lengths(&coded::RGB, &mut lengths);
     let a = decode8(&frames::RGB, g, &lengths, &mut planes, &mut workspace);
     put::answer(b"planes", a);
-    put::three(b"\n  G:\n  B:\n  R:", &planes, 16);
+    put::samples_u8(b"\n  G:", &planes[0..16]);
+    put::samples_u8(b"\n  B:", &planes[16..32]);
+    put::samples_u8(b"\n  R:", &planes[32..48]);
     put::workspace(b"\n  workspace", &workspace);
 }
 
@@ -86,7 +88,9 @@ fn yuv() {
     set_lengths(&coded::YUV, &mut lengths);
     let a = decode8(&frames::YUV, g, &lengths, &mut planes, &mut workspace);
     put::answer(b"planes", a);
-    put::three(b"\n  Y:\n  U:\n  V:", &planes, 24);
+    put::samples_u8(b"\n  Y:", &planes[0..24]);
+    put::samples_u8(b"\n  U:", &planes[24..30]);
+    put::samples_u8(b"\n  V:", &planes[30..36]);
     put::workspace(b"\n  workspace", &workspace);
 }
 
@@ -121,28 +125,35 @@ fn raw(
     put::workspace(words_title, &workspace);
 }
 
-// Document 01's frame, or a part or a spoiled form of it, on three lines.
-fn small(title: &[u8], frame: &[u8]) {
+// Document 01's frame, or a part or a spoiled form of it.
+fn gray(title: &[u8], frame: &[u8], samples_title: &[u8], words_title: &[u8]) {
     let mut planes = [170u8; 2];
-    put::text(title);
-    raw(
-        frame,
-        plain(Family::Gray, 2, 1, 1, 8),
-        &mut planes,
-        256,
-        b"\n  plane 0:",
-        b"\n  workspace",
-    );
+    let g = plain(Family::Gray, 2, 1, 1, 8);
+    io::write_all(1, title);
+    raw(frame, g, &mut planes, 256, samples_title, words_title);
 }
 
 fn built_in() {
-    small(b"Gray 2x1, 8 bits, the frame of 46 bytes: ", &SMALL);
-    small(b"the same, cut to 45 bytes: ", &SMALL[0..45]);
-    put::text(b"Rgb 4x4, 8 bits, slices of planes 1 0 2 2 1 0: ");
+    gray(
+        b"Gray 2x1, 8 bits, the frame of 46 bytes: ",
+        &SMALL,
+        b"\n  plane 0:",
+        b"\n  workspace",
+    );
+    gray(
+        b"the same, cut to 45 bytes: ",
+        &SMALL[0..45],
+        b"\n  plane 0:",
+        b"\n  workspace",
+    );
+    io::write_all(1, b"Rgb 4x4, 8 bits, slices of planes 1 0 2 2 1 0: ");
     rgb();
-    put::text(b"Yuv 4:2:0 4x6, 8 bits, interlaced, slices of planes 0 2 1 1 0 2: ");
+    io::write_all(
+        1,
+        b"Yuv 4:2:0 4x6, 8 bits, interlaced, slices of planes 0 2 1 1 0 2: ",
+    );
     yuv();
-    put::text(b"Gray 4x3, 10 bits, words of 1 to 14 bits: ");
+    io::write_all(1, b"Gray 4x3, 10 bits, words of 1 to 14 bits: ");
     deep();
 }
 
@@ -165,7 +176,7 @@ fn build(title: &[u8], lengths: &[u8], lent: usize, need: usize)
     requires { ⌜ (lent ≤ 4100) × (need ≤ 4100) ⌝ }
 {
     let mut workspace = [9u32; 4100];
-    put::text(title);
+    io::write_all(1, title);
     build_in(lengths, lent, need, &mut workspace);
 }
 
@@ -181,44 +192,24 @@ fn read(title: &[u8], lengths: &[u8], payload: &[u8], n: usize)
 {
     let mut samples = [170u16; 6];
     let mut workspace = [9u32; 4100];
-    put::text(title);
+    io::write_all(1, title);
     read_in(lengths, payload, &mut workspace, &mut samples[0..n]);
 }
 
-// The same frame on one line.
-fn gray(title: &[u8], frame: &[u8]) {
-    let mut planes = [170u8; 2];
-    put::text(title);
-    raw(
-        frame,
-        plain(Family::Gray, 2, 1, 1, 8),
-        &mut planes,
-        256,
-        b"; samples",
-        b"; workspace",
-    );
-}
-
-// With one byte changed.
+// Document 01's frame with one byte changed.
 fn spoiled(title: &[u8], at: usize, byte: u8)
     requires { ⌜ at < 46 ⌝ }
 {
     let mut frame = SMALL;
     frame[at] = byte;
-    gray(title, &frame);
+    gray(title, &frame, b"; samples", b"; workspace");
 }
 
 fn dot(title: &[u8], frame: &[u8]) {
     let mut planes = [170u8; 3];
-    put::text(title);
-    raw(
-        frame,
-        plain(Family::Rgb, 1, 1, 1, 8),
-        &mut planes,
-        768,
-        b"; samples",
-        b"; workspace",
-    );
+    let g = plain(Family::Rgb, 1, 1, 1, 8);
+    io::write_all(1, title);
+    raw(frame, g, &mut planes, 768, b"; samples", b"; workspace");
 }
 
 // Needs: one word fewer is refused.
@@ -252,8 +243,18 @@ fn words() {
 
 // Whole frames.
 fn whole() {
-    gray(b"the frame of 46 bytes: ", &SMALL);
-    gray(b"cut to 45 bytes: ", &SMALL[0..45]);
+    gray(
+        b"the frame of 46 bytes: ",
+        &SMALL,
+        b"; samples",
+        b"; workspace",
+    );
+    gray(
+        b"cut to 45 bytes: ",
+        &SMALL[0..45],
+        b"; samples",
+        b"; workspace",
+    );
     spoiled(b"predictor byte 0: ", 43, 0);
     spoiled(b"entry 1 of 7: ", 36, 7);
     spoiled(b"entry 1 of 8: ", 36, 8);

@@ -1,22 +1,18 @@
 // What the program prints: answers, samples, and what a workspace holds that held 9 throughout. Nothing is proved of the text.
 use scope::Answer;
 use scope::Place;
-ghost use Prim.Native.Nat.{_≤_};
-ghost use lib.ListN.{length};
-
-pub(crate) fn text(text: &[u8]) {
-    io::write_all(1, text);
-}
 
 fn number(before: &[u8], n: u64) {
-    text(before);
+    io::write_all(1, before);
     io::print_decimal(1, n);
 }
 
 // `refusal 12 at slice 0` or, where nothing is refused, the word for that.
 pub(crate) fn answer(done: &[u8], a: Answer) {
     match a {
-        Answer::Done => text(done),
+        Answer::Done => {
+            io::write_all(1, done);
+        }
         Answer::Refused(n, p) => {
             number(b"refusal ", n as u64);
             match p {
@@ -38,7 +34,7 @@ fn sample_u16(sample: u16) {
 
 // A title, then the samples, each after a space.
 pub(crate) fn samples_u8(title: &[u8], samples: &[u8]) {
-    text(title);
+    io::write_all(1, title);
     let mut i = 0;
     while i < samples.len() {
         sample_u8(samples[i]);
@@ -47,22 +43,12 @@ pub(crate) fn samples_u8(title: &[u8], samples: &[u8]) {
 }
 
 pub(crate) fn samples_u16(title: &[u8], samples: &[u16]) {
-    text(title);
+    io::write_all(1, title);
     let mut i = 0;
     while i < samples.len() {
         sample_u16(samples[i]);
         i += 1;
     }
-}
-
-// Three planes, the first of n samples and the others of one size, with five bytes of text before each.
-pub(crate) fn three(titles: &[u8], planes: &[u8], n: usize)
-    requires { ⌜ (n ≤ length (now planes)) × (15 ≤ length (now titles)) ⌝ }
-{
-    let m = n + (planes.len() - n) / 2;
-    samples_u8(&titles[0..5], &planes[0..n]);
-    samples_u8(&titles[5..10], &planes[n..m]);
-    samples_u8(&titles[10..15], &planes[m..]);
 }
 
 fn every(words: &[u32], v: u32) -> bool {
@@ -78,14 +64,14 @@ fn every(words: &[u32], v: u32) -> bool {
 
 // A title, whether the workspace is now wholly zero, as found, or neither, and the line's end.
 pub(crate) fn workspace(title: &[u8], words: &[u32]) {
-    text(title);
+    io::write_all(1, title);
     if every(words, 0) {
-        text(b" zero\n");
+        io::write_all(1, b" zero\n");
         return;
     }
     if every(words, 9) {
-        text(b" as found\n");
+        io::write_all(1, b" as found\n");
         return;
     }
-    text(b" changed\n");
+    io::write_all(1, b" changed\n");
 }

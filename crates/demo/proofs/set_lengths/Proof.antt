@@ -5,7 +5,6 @@ use lib.ListN.{length}
 use borrow.Author.Needs.{needs}
 use Rattle.demo.proofs.set_lengths.Statement.{statement}
 use Rattle.demo.proofs.set_lengths.Tie as tie
-use Rattle.demo.proofs.set_lengths.Reads as reads
 
 abbrev Inv-loop : tie.InvT-loop
 Inv-loop code lengths₀ i₀ lengths i = (i ≤ length code) × (length lengths ≡ length lengths₀)

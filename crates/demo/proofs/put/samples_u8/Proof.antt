@@ -4,7 +4,6 @@ use lib.ListN.{length}
 use borrow.Author.Needs.{needs}
 use Rattle.demo.proofs.put.samples_u8.Statement.{statement}
 use Rattle.demo.proofs.put.samples_u8.Tie as tie
-use Rattle.demo.proofs.put.samples_u8.Reads as reads
 
 abbrev Inv-loop : tie.InvT-loop
 Inv-loop title samples i₀ i = i ≤ length samples
@@ -12,8 +11,8 @@ Inv-loop title samples i₀ i = i ≤ length samples
 abbrev μ-loop : tie.MeasureT-loop
 μ-loop title samples i₀ i = length samples - i
 
-text-requires : tie.Need-text-requires Inv-loop μ-loop
-text-requires c κs = search needs
+write-all-requires : tie.Need-write-all-requires Inv-loop μ-loop
+write-all-requires c κs = search needs
 
 loop-holds : tie.Need-loop-holds Inv-loop μ-loop
 loop-holds c = search needs
@@ -42,7 +41,7 @@ samples-u8-spec =
     (tie.spec
     Inv-loop
     μ-loop
-    text-requires
+    write-all-requires
     loop-holds
     shared-slice-read-sample-u8
     sample-u8-requires

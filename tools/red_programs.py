@@ -1,10 +1,10 @@
 #!/usr/bin/env python3
-"""red_programs.py: sees the programs demo, known and replay fail.
+"""red_programs.py: sees the programs demo and replay fail.
 
 Each row below changes a copy of the repository, in a temporary folder, and runs programs of it. A wrong decoder is not proved, so it is run by
 `rt try`, which proves nothing: on the interpreter and compiled. A spoiled file is run by `rt check`. Every row must end with a status other than 0,
-but for the last two. These show what the memory set first is worth: with the expected samples already lying there (the customer's
-power-on test once did that) the right decoder passes, and most accepted cases pass the decoder that writes nothing.
+but for the last but one. The last two show what the memory set first is worth: with what it must hold afterwards already lying there (the customer's
+power-on test once did that) the right decoder passes, and most cases pass the decoder that writes nothing.
 
 Usage, at the repository's root, after `rt check`: python3 tools/red_programs.py [WORD..], a word choosing the rows that have it in their name.
 Status 0 when every row is as it should be.
@@ -19,74 +19,82 @@ from pathlib import Path
 ROOT = Path(__file__).resolve().parent.parent
 
 
-def swap(path, old, new, times=1):
-    def edit(copy):
-        file = copy / path
-        text = file.read_text()
-        if text.count(old) != times:
-            sys.exit(f"{path}: stands {text.count(old)} times and not {times}: {old}")
-        file.write_text(text.replace(old, new))
+def change(path, edit):
+    """An edit of one file of the copy, as text or, where the edit takes bytes, as bytes."""
 
-    return edit
+    def apply(copy):
+        file = copy / path
+        file.write_bytes(edit(file.read_bytes()))
+
+    return apply
+
+
+def swap(path, old, new):
+    """A text that stands once."""
+
+    def edit(data):
+        text = data.decode()
+        if text.count(old) != 1:
+            sys.exit(f"{path}: stands {text.count(old)} times: {old}")
+        return text.replace(old, new).encode()
+
+    return change(path, edit)
 
 
 def cut(path, pattern, new):
-    def edit(copy):
-        file = copy / path
-        text, count = re.subn(pattern, new, file.read_text(), flags=re.S)
-        if count != 1:
-            sys.exit(f"{path}: matches {count} times: {pattern}")
-        file.write_text(text)
+    """Every match of a pattern, of which there is one at least."""
 
-    return edit
+    def edit(data):
+        text, count = re.subn(pattern, new, data.decode(), flags=re.S)
+        if count == 0:
+            sys.exit(f"{path}: nothing matches: {pattern}")
+        return text.encode()
 
-
-def byte(path, at, change):
-    def edit(copy):
-        file = copy / path
-        data = bytearray(file.read_bytes())
-        data[at] = change(data[at])
-        file.write_bytes(data)
-
-    return edit
+    return change(path, edit)
 
 
-def tally(copy):
-    """Of the replay only the last line is left to print, so that the count of wrong cases is seen."""
-    file = copy / "crates/replay/src/lines.rt"
-    text = file.read_text()
-    for name in ("print_right", "print_wrong", "print_other"):
-        text, count = re.subn(r"(fn %s\([^)]*\)) \{\n.*?\n\}\n" % name, r"\1 {}\n", text, flags=re.S)
-        if count != 1:
-            sys.exit(f"lines.rt: {name} stands {count} times")
-    file.write_text(text)
-    (copy / "crates/replay/stdout").write_text("404 cases, 0 wrong\n")
+def byte(path, at, value):
+    """A byte of a file, at a place and to a value that are functions of its bytes."""
+
+    def edit(data):
+        return data[: at(data)] + bytes([value(data)]) + data[at(data) + 1 :]
+
+    return change(path, edit)
 
 
 def both(edit):
-    return [edit("decode8", "u8"), edit("decode16", "u16")]
+    return [edit(f"crates/decode{n}/src/lib.rt", n) for n in (8, 16)]
 
 
-WRITES_NOTHING = both(lambda crate, u: cut(f"crates/{crate}/src/lib.rt", r"    reading::slice_%s\(.*?\n    \)\n" % u, "    Answer::Done\n"))
-NO_CLEARING = both(lambda crate, u: cut(f"crates/{crate}/src/lib.rt", r" {20}memory::clear_%s\(planes\);\n {20}memory::clear_u32\(workspace\);\n" % u, ""))
+# The call that reads a slice into its place; the calls that clear the planes; the lines that set the planes first.
+WRITES_NOTHING = both(lambda file, n: cut(file, r"\bslice::slice_u%d\([^;]*?\n    \)" % n, "Answer::Done"))
+NO_CLEARING = both(lambda file, n: cut(file, r"\bmemory::clear_u%d\([^)]*\);" % n, ""))
 HOLDS_THE_ANSWER = [
-    swap("crates/due/src/lib.rt", "planes[i] = 255 - byte_of", "planes[i] = byte_of"),
-    swap("crates/due/src/lib.rt", "planes[s] = 65535 - sample_u16", "planes[s] = sample_u16"),
-    swap("crates/due/src/lib.rt", "return 255 - sample;", "return sample;"),
-    swap("crates/due/src/lib.rt", "return 65535 - sample;", "return sample;"),
+    swap("crates/cases/src/lib.rt", "after[i] ^ flip", "after[i]"),
+    swap("crates/cases/src/lib.rt", "after[2 * i] ^ flip, after[2 * i + 1] ^ flip", "after[2 * i], after[2 * i + 1]"),
 ]
-LIST = "crates/replay/data/cases.myrl"
+# Of the replay only the last line is left to print, so that the count of wrong cases is seen.
+TALLY = [cut("crates/replay/src/main.rt", r"(fn print_wrong\([^)]*\)) \{\n.*?\n\}\n", r"\1 {}\n")]
 
-# name, edits, verb, programs, whether each must fail
+LIST = "crates/replay/data/cases.myrl"
+NUMBER = 48
+
+
+def sample(data):
+    """Where the first sample of case 0 stands: after its 76 bytes of numbers and its runs."""
+    return 76 + int.from_bytes(data[60:64], "little")
+
+
+# name, edits, verb, programs, and what must come of it: a failure, none, or a failure that says so
 ROWS = [
-    ("writes nothing and trusts old memory", WRITES_NOTHING, "try", ["demo", "known", "replay"], True),
-    ("does not clear after a refusal", NO_CLEARING, "try", ["demo", "known", "replay"], True),
-    ("the list: case 0 expects refusal 13", [byte(LIST, 72, lambda b: 13)], "check", ["replay"], True),
-    ("the list: case 0 expects another sample", [byte(LIST, 424, lambda b: b ^ 1)], "check", ["replay"], True),
+    ("writes nothing and trusts old memory", WRITES_NOTHING, "try", ["demo", "replay"], True),
+    ("does not clear after a refusal", NO_CLEARING, "try", ["demo", "replay"], True),
+    ("the list: case 0 expects refusal 13", [byte(LIST, lambda d: NUMBER, lambda d: 13)], "check", ["replay"], True),
+    ("the list: case 0 expects another sample", [byte(LIST, sample, lambda d: d[sample(d)] ^ 1)], "check", ["replay"], True),
     ("demo expects another sample", [swap("crates/demo/stdout", "U: 128 127", "U: 128 126")], "check", ["demo"], True),
-    ("known expects another refusal", [swap("crates/known/stdout", "entry 1 of 9: refusal 6", "entry 1 of 9: refusal 7")], "check", ["known"], True),
+    ("demo expects another refusal", [swap("crates/demo/stdout", "entry 1 of 9: refusal 6", "entry 1 of 9: refusal 7")], "check", ["demo"], True),
     ("memory holds the answer, the right decoder", HOLDS_THE_ANSWER, "try", ["replay"], False),
-    ("memory holds the answer, writes nothing", WRITES_NOTHING + HOLDS_THE_ANSWER, "try", ["replay"], None),
+    ("memory holds the answer, writes nothing", WRITES_NOTHING + HOLDS_THE_ANSWER, "try", ["replay"], "`65 wrong"),
 ]
 
 
@@ -101,7 +109,7 @@ def said(text):
     return text.strip().splitlines()[-1][:160] if text.strip() else ""
 
 
-def run(name, edits, verb, program, must_fail):
+def run(name, edits, verb, program, must):
     with tempfile.TemporaryDirectory() as folder:
         copy = Path(folder) / "copy"
         copy.mkdir()
@@ -109,13 +117,11 @@ def run(name, edits, verb, program, must_fail):
         shutil.copy(ROOT / "crates.txt", copy)
         if verb == "check" and (ROOT / "target").exists():
             shutil.copytree(ROOT / "target", copy / "target", symlinks=True)
-        for edit in edits:
+        for edit in edits + (TALLY if program == "replay" and verb == "try" else []):
             edit(copy)
-        if program == "replay" and verb == "try":
-            tally(copy)
         ran = subprocess.run(["rt", verb, program], cwd=copy, capture_output=True, text=True)
         out = (ran.stdout + ran.stderr).replace(str(copy) + "/", "")
-        right = must_fail is None or (ran.returncode != 0) == must_fail
+        right = (ran.returncode != 0) == bool(must) and (must in said(out) if isinstance(must, str) else True)
         print(f"{'' if right else 'NOT AS IT SHOULD BE: '}{name} | rt {verb} {program} | status {ran.returncode} | {said(out)}", flush=True)
         return right
 
@@ -123,9 +129,9 @@ def run(name, edits, verb, program, must_fail):
 def main():
     rows = [r for r in ROWS if all(w in r[0] for w in sys.argv[1:])]
     fine = True
-    for name, edits, verb, programs, must_fail in rows:
+    for name, edits, verb, programs, must in rows:
         for program in programs:
-            fine = run(name, edits, verb, program, must_fail) and fine
+            fine = run(name, edits, verb, program, must) and fine
     sys.exit(0 if fine else 1)
 
 

@@ -1,8 +1,8 @@
 #!/usr/bin/env python3
 """list.py: edits one case of the stored list, in one place at a time, and sees that `replay-list --check` reports that case.
 
-The list is written anew to target/red/whole.myrl and must pass. Then, each in a copy of its own: the expected number of case 0,
-its first expected sample, and the expected place of the first case that is refused at a slice. Status 0 when each copy ends with
+The list is written anew to target/red/whole.myrl and must pass. Then, each in a copy of its own: the stored number of case 0,
+its first sample, and the stored place of the first case that is refused at a slice. Status 0 when each copy ends with
 status 1 and the one edited case is the one reported, else 1. The form is in replay-list/src/form.rs.
 """
 import subprocess
@@ -11,8 +11,8 @@ from pathlib import Path
 
 HOST = Path(__file__).resolve().parent.parent
 RED = HOST / "target" / "red"
-# Bytes from a case's size to its expected number, its kind, its place, and its count of runs.
-NUMBER, KIND, PLACE, RUNS = 48, 52, 56, 64
+# Where a case's stored number, kind and place stand, the sizes of its three parts, and the first part: the runs of lengths.
+NUMBER, KIND, PLACE, SIZES, RUNS = 48, 52, 56, (60, 64, 68), 76
 
 
 def replay_list(*words):
@@ -25,19 +25,18 @@ def word(data, at):
 
 
 def cases(data):
-    """Where each case begins, at its size."""
-    at = 24
-    for _ in range(word(data, 4)):
+    """Where each case begins."""
+    at = 0
+    while at < len(data):
         yield at
-        at += 4 + word(data, at)
+        at += RUNS + sum(word(data, at + size) for size in SIZES)
 
 
 def edits(data):
     """Name, index of the edited case, position of the edited byte, and its new value."""
     starts = list(cases(data))
-    first = starts[0]
-    yield "number", 0, first + NUMBER, 13
-    sample = first + RUNS + 4 + 8 * word(data, first + RUNS) + 4
+    yield "number", 0, NUMBER, 13
+    sample = RUNS + word(data, SIZES[0])
     yield "sample", 0, sample, data[sample] ^ 1
     index = next(i for i, s in enumerate(starts) if word(data, s + KIND) == 1)
     yield "place", index, starts[index] + PLACE, data[starts[index] + PLACE] + 1
@@ -51,7 +50,7 @@ def main():
         if ran.returncode != 0:
             sys.exit("the whole list: " + ran.stderr)
     data = whole.read_bytes()
-    print(f"whole: {word(data, 4)} cases, status 0")
+    print(f"whole: {len(list(cases(data)))} cases, status 0")
     for name, index, at, value in edits(data):
         copy = bytearray(data)
         copy[at] = value

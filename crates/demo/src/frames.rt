@@ -1,6 +1,15 @@
-// The frames that the demo decodes beside document 01's own (show::given), as document 01's "Layout" has them; a line for each group of bytes. Every frame begins with
+// The frames that the program decodes, as document 01's "Layout" has them; a line for each group of bytes. Every frame begins with
 // 32 header bytes, which the core does not read, and then the little-endian entries: entry s + 1 is where slice s starts, counted
 // from offset 32.
+
+// Document 01's frame, a line for each group of bytes: Gray 2x1, depth 8, slice height 1, no words. 32 header bytes, which the core
+// does not read; entry 0 and entry 1 = 10; the plane count 1 and the one slice's plane; the slice: raw, predictor 1 (Left), residues
+// 7 and 5.
+pub const SMALL: [u8; 46] = *b"\
+    \0\0\0\0\0\0\0\0\0\0\0\0\0\0\0\0\0\0\0\0\0\0\0\0\0\0\0\0\0\0\0\0\
+    \0\0\0\0\x0a\0\0\0\
+    \x01\x00\
+    \x01\x01\x07\x05";
 
 // Rgb 4x4, depth 8, slice height 2: three planes of two slices, which do not come plane by plane. The header; entries 0 to 6; the
 // plane count 3 and the planes of the slices, 1 0 2 2 1 0 (0 is B', 1 is G, 2 is R'). Then the slices:
@@ -50,3 +59,22 @@ pub const DEEP: [u8; 53] = *b"\
     \0\0\0\0\x0a\0\0\0\
     \x01\x00\
     \x00\x03\x41\x00\x04\x00\x22\x80\x00\x56\x88";
+
+// Rgb 1x1, depth 8, slice height 1, no words: a line for each group of bytes. The header; entries 0 to 3; the plane count 3 and the
+// planes of the slices; three raw slices, Left, of one residue each: 5, 7 and 9.
+pub const DOT: [u8; 61] = *b"\
+    \0\0\0\0\0\0\0\0\0\0\0\0\0\0\0\0\0\0\0\0\0\0\0\0\0\0\0\0\0\0\0\0\
+    \0\0\0\0\x14\0\0\0\x17\0\0\0\x1a\0\0\0\
+    \x03\x00\x01\x02\
+    \x01\x01\x05\
+    \x01\x01\x07\
+    \x01\x01\x09";
+
+// The same with the planes 0, 0 and 1.
+pub const TWICE: [u8; 61] = *b"\
+    \0\0\0\0\0\0\0\0\0\0\0\0\0\0\0\0\0\0\0\0\0\0\0\0\0\0\0\0\0\0\0\0\
+    \0\0\0\0\x14\0\0\0\x17\0\0\0\x1a\0\0\0\
+    \x03\x00\x00\x01\
+    \x01\x01\x05\
+    \x01\x01\x07\
+    \x01\x01\x09";

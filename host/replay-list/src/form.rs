@@ -1,30 +1,24 @@
-//! The stored list's form. All numbers are little-endian u32, in this order and nothing between them:
+//! The stored list's form: one case after another. All numbers are little-endian u32, with nothing
+//! between them:
 //!
 //! ```text
-//! head:  the four bytes "MYRL"
-//!        number of cases
-//!        most frame bytes, most lengths bytes, most samples, most workspace words of any case
-//! case:  size in bytes of what follows in this case
-//!        entry, 8 or 16
-//!        width, height, slice height, family, sx, sy, depth, interlaced
-//!        workspace words to lend
-//!        plane buffer elements to lend
-//!        number (0 for planes), kind (0 nothing, 1 slice, 2 plane), place
-//!        source: 0 all from the Rust, 1 the place from document 01, 2 all from document 01
-//!        number of runs, then for each run: how many lengths, which length
-//!        number of expected bytes, then those bytes: one a sample for entry 8, two for entry 16,
-//!          low byte first; none unless the number is 0
-//!        number of frame bytes, then the frame
+//! entry, 8 or 16
+//! width, height, slice height, family, sx, sy, depth, interlaced
+//! workspace words, plane buffer elements, lengths to lend
+//! number (0 for planes), kind (0 nothing, 1 slice, 2 plane), place
+//! bytes of the runs, of what the planes hold afterwards, of the frame
+//! source: 0 all from the Rust, 1 the place from document 01, 2 all from document 01
+//! the runs: for each 256 times the place after its last length, plus the length
+//! what the planes hold afterwards: one byte an element for entry 8, two for entry 16, low byte
+//!   first. The samples for number 0; for 1 to 4 what is lent; else zeros
+//! the frame
 //! ```
 //!
-//! A reader needs only a byte slice and a position. The lengths are lent as bytes, run by run.
+//! All sizes stand before the parts, so that a reader needs only a byte slice and a position.
 
 use compare::our_side::Lent;
 use magicyuv_host::model::Entry;
 use magicyuv_host::{Answer, Numbers, Place};
-
-/// The list's first four bytes.
-pub const MARK: [u8; 4] = *b"MYRL";
 
 /// Where an answer comes from.
 #[derive(Clone, Copy, Debug, PartialEq, Eq)]
@@ -88,51 +82,69 @@ fn put(out: &mut Vec<u8>, numbers: &[u32]) {
     numbers.iter().for_each(|n| out.extend(n.to_le_bytes()));
 }
 
-fn runs(lengths: &[u8]) -> Vec<(u32, u32)> {
-    let mut out: Vec<(u32, u32)> = Vec::new();
-    for length in lengths.iter().map(|l| u32::from(*l)) {
+/// The runs of equal lengths: where each ends, and its length.
+fn runs(lengths: &[u8]) -> Vec<u32> {
+    let mut out: Vec<u32> = Vec::new();
+    for (at, length) in lengths.iter().enumerate() {
+        let run = 256 * (at as u32 + 1) + u32::from(*length);
         match out.last_mut() {
-            Some((count, value)) if *value == length => *count += 1,
-            _ => out.push((1, length)),
+            Some(last) if *last % 256 == u32::from(*length) => *last = run,
+            _ => out.push(run),
         }
     }
     out
 }
 
-fn case_bytes(case: &Case) -> Vec<u8> {
-    let n = &case.numbers;
-    let (entry, place) = (case.entry, case.answer.place());
+/// The lengths that runs spell; none where a run ends before it begins.
+fn lengths(runs: &[u8]) -> Option<Vec<u8>> {
     let mut out = Vec::new();
-    put(&mut out, &[if entry == Entry::Eight { 8 } else { 16 }]);
-    put(&mut out, &[n.width, n.height, n.slice_height, n.family, n.sx, n.sy, n.depth]);
-    put(&mut out, &[n.interlaced, case.words as u32, case.elements as u32]);
-    put(&mut out, &[case.answer.number(), place.kind(), place.index(), case.source.number()]);
-    let runs = runs(&case.lengths);
-    put(&mut out, &[runs.len() as u32]);
-    runs.iter().for_each(|(count, length)| put(&mut out, &[*count, *length]));
-    let samples: Vec<u8> = match entry {
-        Entry::Eight => case.samples.iter().map(|s| *s as u8).collect(),
-        Entry::Sixteen => case.samples.iter().flat_map(|s| s.to_le_bytes()).collect(),
-    };
-    put(&mut out, &[samples.len() as u32]);
-    out.extend(samples);
-    put(&mut out, &[case.frame.len() as u32]);
+    for run in runs.chunks(4) {
+        let run = u32::from_le_bytes(run.try_into().ok()?);
+        let end = (run / 256) as usize;
+        (out.len() < end).then(|| out.resize(end, run as u8))?;
+    }
+    Some(out)
+}
+
+/// Bytes of an element.
+fn width(entry: Entry) -> usize {
+    if entry == Entry::Eight {
+        1
+    } else {
+        2
+    }
+}
+
+/// What the planes hold afterwards. For refusals 1 to 4 that is what is lent: bytes that are neither
+/// all the same nor all zero.
+fn after(case: &Case) -> Vec<u8> {
+    let bytes = case.elements * width(case.entry);
+    match (case.answer.number(), case.entry) {
+        (0, Entry::Eight) => case.samples.iter().map(|s| *s as u8).collect(),
+        (0, Entry::Sixteen) => case.samples.iter().flat_map(|s| s.to_le_bytes()).collect(),
+        (1..=4, _) => (0..bytes).map(|i| (165 + 37 * i) as u8).collect(),
+        _ => vec![0; bytes],
+    }
+}
+
+fn put_case(out: &mut Vec<u8>, case: &Case) {
+    let (n, place) = (&case.numbers, case.answer.place());
+    let (runs, after) = (runs(&case.lengths), after(case));
+    put(out, &[if case.entry == Entry::Eight { 8 } else { 16 }]);
+    put(out, &[n.width, n.height, n.slice_height, n.family, n.sx, n.sy, n.depth, n.interlaced]);
+    put(out, &[case.words as u32, case.elements as u32, case.lengths.len() as u32]);
+    put(out, &[case.answer.number(), place.kind(), place.index()]);
+    put(out, &[4 * runs.len() as u32, after.len() as u32, case.frame.len() as u32]);
+    put(out, &[case.source.number()]);
+    put(out, &runs);
+    out.extend(after);
     out.extend(&case.frame);
-    out
 }
 
 /// The whole list as bytes.
 pub fn write(cases: &[Case]) -> Vec<u8> {
-    let most = |size: fn(&Case) -> usize| cases.iter().map(size).max().unwrap_or(0) as u32;
-    let mut out = MARK.to_vec();
-    put(&mut out, &[cases.len() as u32]);
-    put(&mut out, &[most(|c| c.frame.len()), most(|c| c.lengths.len())]);
-    put(&mut out, &[most(|c| c.elements), most(|c| c.words)]);
-    for case in cases {
-        let bytes = case_bytes(case);
-        put(&mut out, &[bytes.len() as u32]);
-        out.extend(bytes);
-    }
+    let mut out = Vec::new();
+    cases.iter().for_each(|case| put_case(&mut out, case));
     out
 }
 
@@ -152,41 +164,36 @@ impl<'a> Reader<'a> {
     fn number(&mut self) -> Option<u32> {
         self.part(4).map(|b| u32::from_le_bytes([b[0], b[1], b[2], b[3]]))
     }
-
-    fn block(&mut self) -> Option<&'a [u8]> {
-        let count = self.number()? as usize;
-        self.part(count)
-    }
 }
 
 /// Reads the list back; none where it is not of this form.
 pub fn read(bytes: &[u8]) -> Option<Vec<Case>> {
     let mut reader = Reader { bytes, at: 0 };
-    if reader.part(4)? != MARK {
-        return None;
+    let mut out = Vec::new();
+    while reader.at < bytes.len() {
+        out.push(case(&mut reader)?);
     }
-    let count = reader.number()?;
-    reader.part(16)?;
-    let cases = (0..count).map(|_| case(reader.block()?)).collect::<Option<Vec<Case>>>()?;
-    (reader.at == bytes.len()).then_some(cases)
+    Some(out)
 }
 
-fn case(bytes: &[u8]) -> Option<Case> {
-    let r = &mut Reader { bytes, at: 0 };
-    let entry = if r.number()? == 8 { Entry::Eight } else { Entry::Sixteen };
+fn case(r: &mut Reader) -> Option<Case> {
+    let entry = match r.number()? {
+        8 => Entry::Eight,
+        16 => Entry::Sixteen,
+        _ => return None,
+    };
     let numbers = numbers(r)?;
-    let (words, elements) = (r.number()? as usize, r.number()? as usize);
+    let (words, elements, count) = (r.number()?, r.number()?, r.number()?);
     let answer = answer(r.number()?, r.number()?, r.number()?)?;
+    let sizes = [r.number()?, r.number()?, r.number()?].map(|n| n as usize);
     let source = source(r.number()?)?;
-    let mut lengths = Vec::new();
-    for _ in 0..r.number()? {
-        let (count, length) = (r.number()? as usize, r.number()? as u8);
-        lengths.resize(lengths.len() + count, length);
-    }
-    let samples = samples(entry, r.block()?);
-    let frame = r.block()?.to_vec();
-    let whole = r.at == bytes.len();
+    let lengths = lengths(r.part(sizes[0])?)?;
+    let held = r.part(sizes[1])?;
+    let samples = if answer == Answer::Planes { samples(entry, held) } else { vec![] };
+    let frame = r.part(sizes[2])?.to_vec();
+    let (words, elements) = (words as usize, elements as usize);
     let case = Case { entry, numbers, words, elements, answer, source, lengths, samples, frame };
+    let whole = case.lengths.len() == count as usize && held.len() == elements * width(entry);
     whole.then_some(case)
 }
 
@@ -247,12 +254,14 @@ mod tests {
     }
 
     #[test]
-    fn a_list_comes_back_and_every_cut_is_refused() {
+    fn a_list_comes_back_and_every_cut_within_a_case_is_refused() {
         let refused = Answer::Refused { number: 12, place: Place::Slice(5) };
         let cases = [sample(8, Answer::Planes), sample(14, Answer::Planes), sample(8, refused)];
         let bytes = write(&cases);
         let back = read(&bytes).expect("the form");
         assert_eq!(format!("{back:?}"), format!("{cases:?}"));
-        assert!((0..bytes.len()).all(|end| read(&bytes[..end]).is_none()));
+        let whole = |end: usize| read(&bytes[..end]).is_none_or(|cut| write(&cut).len() == end);
+        assert!((0..bytes.len()).all(whole));
+        assert_eq!((0..bytes.len()).filter(|end| read(&bytes[..*end]).is_some()).count(), 3);
     }
 }

@@ -10,7 +10,7 @@ mod choose;
 mod form;
 
 use compare::our_side::Ours;
-use form::Case;
+use form::{Case, Source};
 use magicyuv_host::{backing, Answer};
 use std::process::ExitCode;
 
@@ -33,10 +33,13 @@ fn write(file: &str) -> Result<(), String> {
     Ok(())
 }
 
-/// How many cases of each number.
+/// How many cases of each number, and how many from each source.
 fn counts(cases: &[Case]) -> String {
     let of = |number: u32| cases.iter().filter(|c| c.answer.number() == number).count();
-    (0..16).map(|n| format!("  number {n:>2}: {:>4}\n", of(n))).collect()
+    let from = |source: Source| cases.iter().filter(|c| c.source == source).count();
+    let numbers: String = (0..16).map(|n| format!("  number {n:>2}: {:>4}\n", of(n))).collect();
+    let sources = [Source::Rust, Source::RustWithoutPlace, Source::Document].map(from);
+    format!("{numbers}  all from the Rust, the place not, none: {sources:?}\n")
 }
 
 /// Decodes a case on noise and on its complement, so that one of the two differs from the expected

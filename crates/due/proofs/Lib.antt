@@ -1,4 +1,0 @@
-pub mod Samples
-pub mod Agreeing
-pub mod Sums
-pub mod Verdicts

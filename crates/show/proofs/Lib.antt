@@ -1,3 +1,0 @@
-pub mod Every
-pub mod Decimal
-pub mod Putting

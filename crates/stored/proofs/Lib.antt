@@ -1,2 +1,0 @@
-pub mod Forms
-pub mod Spreads

@@ -1,140 +1,147 @@
 #!/usr/bin/env python3
-"""unused.py: what nothing uses. Lists, in crates/, every imported name that its file does not use, every law (a declaration of a file
-in proofs/ that is no function's proof) and every definition of specs/ that nothing cites, and every `pub` function that no other crate calls.
-Theorems that are ends in themselves stand in tools/theorems.txt, a name a line; the lemmas of proofs/Once.antt are ends too.
+"""unused.py: what nothing uses. Lists, in crates/:
+  imports    a name that a file imports and does not use;
+  laws       a law of proofs/ or a definition of specs/ that nothing cites: its own file not outside its declaration, and no other file
+             imports it (what a function's own folder in proofs/ proves is that function's proof, and a record's fields are its record's);
+  functions  a `pub` function that no other crate calls; the twin of one that is called counts as called (tools/twins.txt).
+The theorems of proofs/Once.antt are ends in themselves, and so is what tools/theorems.txt names, a name a line.
 
 Usage, at the repository's root:
   python3 tools/unused.py           lists; status 1 if there is anything
-  python3 tools/unused.py --fix     takes unused imports out, and lists the rest
-A crate's name after either keeps it to that crate.
+  python3 tools/unused.py --fix     takes unused imports out first, and lists the rest
 """
-import glob
-import os
+import pathlib
 import re
 import sys
 
 WORD = re.compile(r"[^\s(){}⌜⌝;,.|\"`]+")
-FIX = "--fix" in sys.argv
-ONLY = [a for a in sys.argv[1:] if not a.startswith("-")]
+USE = re.compile(r"(?:ghost |pub )?use ")
+NAMED = re.compile(r"((?:ghost |pub )?use) (\S+?)\.\{(.*)\}(;?)$")
+ALIAS = re.compile(r"use (\S+) as (\S+)$")
+PATH = re.compile(r"use \w+(?:::\w+)*::(\w+);$")
+DECLARED = re.compile(r" *(?:abbrev |unfoldable )?(?:pub )?(?:(record|data) ([^\s:(){}]+)|ruleset (\S+) =|([^\s:()]+) : )")
 
 
-def tokens(text):
-    """Every word of a text, also the parts of a dotted name."""
-    return set(WORD.findall(text))
+def bare(line):
+    """A line without its comment."""
+    return re.sub(r"(^|\s)(--|//).*", r"\1", line)
 
 
-def parts(name):
-    """What of a name stands in a text that uses it: all of it, or the pieces of an operator's name."""
-    return [p for p in name.split("_") if p] if name.startswith("_") or name.endswith("_") else [name]
+class File:
+    def __init__(self, path):
+        self.path, self.lines = path, path.read_text().splitlines()
+        code = [bare(line) for line in self.lines]
+        self.imports = [line for line in code if USE.match(line)]
+        self.code = ["" if USE.match(line) else line for line in code]
+        self.text = "\n".join(self.code)
+        self.words = set(WORD.findall(self.text))
+        self.crate = path.parts[1]
+
+    def has(self, name):
+        """Whether the code has a name, or all the pieces of an operator's name."""
+        pieces = [p for p in name.split("_") if p] if "_" in (name[0], name[-1]) else [name]
+        return name in self.words or all(p in self.words if WORD.fullmatch(p) else p in self.text for p in pieces)
 
 
-def body(text, use):
-    """A file without its imports and its comments."""
-    lines = [l for l in text.splitlines() if not re.match(use, l)]
-    return "\n".join(re.sub(r"(^|\s)(--|//).*", "", l) for l in lines)
+def imports(file, fix):
+    """The imported names that a file does not use; with fix they are taken out."""
+    found, kept = [], []
+    for line in file.lines:
+        named, alias, path = NAMED.match(line), ALIAS.match(line), PATH.match(line)
+        if named and named[1] != "pub use":
+            names = [n.strip() for n in named[3].split(",")]
+            used = [n for n in names if file.has(n.split(" as ")[-1])]
+            found += [n for n in names if n not in used]
+            line = f"{named[1]} {named[2]}.{{{', '.join(used)}}}{named[4]}" if used else None
+        elif alias and not re.search(rf"(?<![^\s(){{}};,]){re.escape(alias[2])}\.", file.text):
+            found, line = found + [alias[2]], None
+        elif path and path[1] not in re.findall(r"\w+", file.text):
+            found, line = found + [path[1]], None
+        kept += [] if line is None else [line]
+    if fix and found:
+        file.path.write_text("\n".join(kept) + "\n")
+    return [f"{file.path}: {n}" for n in found]
 
 
-def imports(path):
-    """Unused imports of one file; the file without them."""
-    text = open(path).read()
-    rt = path.endswith(".rt")
-    use = r"(ghost use|use|pub use) " if rt else r"(pub )?use "
-    words = tokens(body(text, use))
-    flat = body(text, use)
-    found, out = [], []
-    for line in text.splitlines(keepends=True):
-        m = re.match(r"(ghost use|use) (\S+?)\.\{(.*)\}(;?)\n", line)
-        if m and (m.group(1) == "ghost use") == rt:
-            names = [n.strip() for n in m.group(3).split(",")]
-            keep = [n for n in names if all(p in words or p in flat for p in parts(n.split(" as ")[-1])) and (n.startswith("_") or n.split(" as ")[-1] in words)]
-            found += [f"{path}: {n}" for n in names if n not in keep]
-            if keep:
-                out.append(f"{m.group(1)} {m.group(2)}.{{{', '.join(keep)}}}{m.group(4)}\n" if keep != names else line)
+def declarations(file):
+    """Name, first and last line of each declaration of a file but the fields of records and constructors."""
+    found, holder = [], None
+    for i, line in enumerate(file.code):
+        match, indent = DECLARED.match(line), len(line) - len(line.lstrip())
+        if holder is not None and line.strip() and indent <= holder:
+            holder = None
+        if holder is not None or not match:
             continue
-        m = re.match(r"use (\S+) as (\S+)\n", line)
-        if m and not rt and not m.group(2).startswith("#"):
-            if not re.search(r"(?<![\w-])" + re.escape(m.group(2)) + r"\.", flat):
-                found.append(f"{path}: {m.group(2)}")
-                continue
-        m = re.match(r"use (\w+(?:::\w+)+);\n", line)
-        if m and rt and not re.search(r"\b" + m.group(1).split("::")[-1] + r"\b", flat):
-            found.append(f"{path}: {m.group(1)}")
-            continue
-        out.append(line)
-    if FIX and found:
-        open(path, "w").write("".join(out))
+        name = match[2] or match[3] or match[4]
+        if match[1]:
+            holder = indent
+        last = i
+        for k in range(i + 1, len(file.code)):
+            after = file.code[k]
+            inner = len(after) - len(after.lstrip())
+            if after.strip() and inner <= indent and not re.match(rf"({re.escape(name)}|unfolding) |[\])}}]", after.strip()):
+                break
+            last = k
+        found.append((name, i, last))
     return found
 
 
-def declared(path):
-    """The names that a file of laws or definitions declares."""
-    names = []
-    for line in open(path):
-        m = re.match(r"\s*(?:(?:abbrev|unfoldable) )?(?:pub )?(?:record |data )?([^\s:()]+) (?::|\()", line)
-        if m and not line.lstrip().startswith(("--", "use", "module", "let", "in ", "record {", "unfolding", "go ")) and not re.match(r"\s*pub \S+ :", line if line.startswith("    pub") and False else ""):
-            names.append(m.group(1))
-    return names
+def module(file):
+    """The import paths by which other files name a file of laws or definitions: from its own crate, and from another."""
+    _, crate, kind, name = file.path.with_suffix("").parts
+    return {f"Rattle.{crate}.{kind}.{name}", f"Rattle.{crate}.{kind}.{name}"}
 
 
-def laws(every):
-    """Laws and definitions that nothing cites: a name that stands only where it is declared and defined."""
-    ends = set(open("tools/theorems.txt").read().split()) if os.path.exists("tools/theorems.txt") else set()
-    count = {}
-    for path, text in every.items():
-        for w in WORD.findall(re.sub(r"(?m)^\s*--.*$|(?m)^use .*$|(?m)^ghost use .*$".replace("(?m)", ""), "", text, flags=re.M)):
-            count.setdefault(w, []).append(path)
+def laws(files, ends):
+    """Laws and definitions that nothing cites."""
+    cited = set()
+    for file in files:
+        for line in file.imports:
+            named, alias = NAMED.match(line), ALIAS.match(line)
+            if named:
+                cited |= {(named[2], n.split(" as ")[0].strip()) for n in named[3].split(",")}
+            elif alias:
+                cited |= {(alias[1], n) for n in re.findall(rf"(?<![^\s(){{}};,]){re.escape(alias[2])}\.({WORD.pattern})", file.text)}
     found = []
-    for path in sorted(every):
-        if not re.search(r"/(proofs|specs)/[A-Z]\w*\.antt$", path) or path.endswith(("Once.antt", "Lib.antt", "Known.antt")):
+    for file in files:
+        if len(file.path.parts) != 4 or file.path.parts[2] not in ("proofs", "specs") or file.path.name in ("Lib.antt", "Once.antt"):
             continue
-        text = every[path]
-        for m in re.finditer(r"(?m)^( *)(?:(?:abbrev|unfoldable) )?pub (?:(?:record|data|ruleset) )?([^\s:()=]+) (?::|\(|=|where)", text):
-            name = m.group(2)
-            if name == "mod" or name in ends:
-                continue
-            # a field of a record is part of what its record says
-            before = text[:m.start()].splitlines()
-            if m.group(1) and any(re.match(r"\s*pub record|\s*record", l) for l in reversed(before[-40:]) if not l.startswith(m.group(1)) or True) and inside_record(before, len(m.group(1))):
-                continue
-            own = [l for l in text.splitlines() if re.match(r"\s*(?:(?:abbrev|unfoldable) )?(?:pub )?(?:(?:record|data|ruleset) )?" + re.escape(name) + r"(\s|$)", l)]
-            uses = sum(len([w for w in WORD.findall(l) if w == name]) for p, t in every.items() for l in t.splitlines()
-                       if name in l and not re.match(r"\s*(--|//|use |ghost use )", l)) - sum(len([w for w in WORD.findall(l) if w == name]) for l in own)
-            if uses <= 0:
-                found.append(f"{path}: {name}")
+        for name, first, last in declarations(file):
+            rest = "\n".join(file.code[:first] + file.code[last + 1:])
+            if name not in ends and name not in WORD.findall(rest) and not any((m, name) in cited for m in module(file)):
+                found.append(f"{file.path}: {name}")
     return found
 
 
-def inside_record(before, indent):
-    """Whether the line that follows these, so far in, is a field of a record."""
-    for line in reversed(before):
-        if not line.strip() or line.lstrip().startswith("--"):
-            continue
-        depth = len(line) - len(line.lstrip())
-        if depth < indent:
-            return bool(re.match(r"\s*(pub )?record ", line))
-    return False
-
-
-def functions(every):
+def functions(files, ends):
     """Public functions that no other crate calls."""
+    twins = {}
+    for line in pathlib.Path("tools/twins.txt").read_text().splitlines():
+        if line.startswith("# crates "):
+            narrow, wide = line.split()[2:4]
+            twins |= {narrow: wide, wide: narrow}
+    sources = [f for f in files if f.path.suffix == ".rt"]
+    calls = {(c, f.crate) for f in sources for c in re.findall(r"\b(?:\w+::)+\w+", "\n".join(f.imports + f.code))}
     found = []
-    sources = {p: t for p, t in every.items() if p.endswith(".rt")}
-    for path, text in sorted(sources.items()):
-        crate = path.split("/")[1]
-        for m in re.finditer(r"(?m)^pub fn (\w+)", text):
-            name = m.group(1)
-            others = "\n".join(t for p, t in sources.items() if p.split("/")[1] != crate)
-            if not re.search(rf"\b{crate}(::\w+)*::{name}\b", others):
-                found.append(f"{path}: pub fn {name}")
+    for file in sources:
+        for name in re.findall(r"(?m)^pub fn (\w+)", file.text):
+            crates = [file.crate, twins.get(file.crate, file.crate)]
+            called = any(re.fullmatch(rf"{crate}(::\w+)*::{name}", c) and by != crate for crate in crates for c, by in calls)
+            if not called and f"{file.crate}::{name}" not in ends:
+                found.append(f"{file.path}: pub fn {name}")
     return found
 
 
 def main():
-    files = sorted(f for f in glob.glob("crates/**/*", recursive=True) if f.endswith((".rt", ".antt")))
-    found = [u for f in files if not ONLY or f.split("/")[1] in ONLY for u in imports(f)]
-    every = {f: open(f).read() for f in files}
-    print("\n".join((["imports:"] + found if found and not FIX else []) + ["laws and definitions:"] + (l := laws(every)) + ["public functions:"] + (p := functions(every))))
-    sys.exit(1 if (found and not FIX) or l or p else 0)
+    paths = sorted(p for p in pathlib.Path("crates").rglob("*") if p.suffix in (".rt", ".antt"))
+    fix = "--fix" in sys.argv
+    loose = [u for p in paths for u in imports(File(p), fix)]
+    files = [File(p) for p in paths]
+    ends = {bare(line).split("#")[0].strip() for line in pathlib.Path("tools/theorems.txt").read_text().splitlines()}
+    found = {"imports": [] if fix else loose, "laws and definitions": laws(files, ends), "public functions": functions(files, ends)}
+    for title, what in found.items():
+        print("\n".join([f"{title}: {len(what)}"] + [f"  {w}" for w in what]))
+    sys.exit(any(found.values()))
 
 
 main()

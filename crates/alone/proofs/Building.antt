@@ -18,7 +18,7 @@ use Rattle.scope.specs.declared.Place.{Place}
 use Rattle.scope.specs.declared.Place.the-variants.{Plane, Nothing}
 use Rattle.scope.specs.declared.Answer.{Answer}
 use Rattle.scope.specs.declared.Answer.the-variants.{Done, Refused}
-use Rattle.codes.proofs.Counts.{which}
+use Rattle.lists.proofs.Tests.{which}
 use Rattle.codes.proofs.Kraft.{none-over, over-none}
 use Rattle.words.specs.Weigh.{weighed}
 use Rattle.words.specs.declared.Weighed.{Weighed}

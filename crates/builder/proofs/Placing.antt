@@ -16,8 +16,9 @@ use lib.Seq.{getD-set-same, getD-set-other}
 use Rattle.scope.specs.Base.{one, count}
 use Rattle.scope.specs.Words.{longest, lengthOf, wordOf, first, heads}
 use Rattle.scope.specs.Lookup.{packed, wordIn}
-use Rattle.codes.proofs.Counts.{at-most-longest, count-next, one-same, one-other}
-use Rattle.memory.proofs.Powers.{shl-one}
+use Rattle.codes.proofs.Counts.{at-most-longest}
+use Rattle.lists.proofs.Counts.{count-next, one-same, one-other}
+use Rattle.lists.proofs.Powers.{shl-one}
 use Rattle.codes.proofs.Table.{slot-hit, slot-miss}
 use Rattle.words.specs.Weigh.{firstsOf}
 use Rattle.words.proofs.Walking.{firsts-at, firsts-length}

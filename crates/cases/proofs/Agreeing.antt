@@ -12,14 +12,10 @@ use borrow.Author.Tests.{eq-eqb, ne-eqb, eqb-true}
 use lib.Dec.{eqb}
 use lib.ListN.{length, getD}
 use Rattle.scope.specs.Base.{listBelow}
-use Rattle.codes.proofs.Lists.{listBelow-only}
+use Rattle.lists.proofs.Made.{listBelow-only}
+use Rattle.lists.proofs.Tests.{and-both}
 use Rattle.cases.specs.Held as spec
 use Rattle.cases.specs.Held.{held8, held16, agrees}
-
-and-true : (a b : Bool) → (a && b) ≡ true → (a ≡ true) × (b ≡ true)
-and-true true true h = (refl, refl)
-and-true true false h = absurd (false≢true h)
-and-true false b h = absurd (false≢true h)
 
 module _ (due : ℕ → ℕ) (xs : List ℕ) where
   -- once another, the answer stays
@@ -56,7 +52,7 @@ module _ (due : ℕ → ℕ) (xs : List ℕ) where
 
   both : (i : ℕ) → agrees due xs (suc i) ≡ true → (agrees due xs i ≡ true) × (eqb (getD xs i 0) (due i) ≡ true)
   unfolding spec.agrees
-  both i h = and-true (agrees due xs i) (eqb (getD xs i 0) (due i)) h
+  both i h = and-both (agrees due xs i) (eqb (getD xs i 0) (due i)) h
 
   agrees-upto : (n : ℕ) → agrees due xs (suc n) ≡ true → (k : ℕ) → k < suc n → Dec (k < n) → (k < n → getD xs k 0 ≡ due k) → getD xs k 0 ≡ due k
   agrees-upto n h k l (yes m) go = go m

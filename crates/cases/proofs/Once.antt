@@ -6,7 +6,7 @@ use contract.Lifetimes.{Lfts}
 use borrow.Fn.World.{ArgsD, ResD}
 use denote.Triple.Clauses.{AtExit}
 use denote.Ref.{now}
-use Rattle.geometry.specs.Settled.{Settles}
+use Rattle.lists.specs.Settled.{Settles}
 use Rattle.cases.proofs.case_of as case-of
 use Rattle.cases.proofs.case_of.Reads as case-of-reads
 use Rattle.cases.proofs.spread as spread

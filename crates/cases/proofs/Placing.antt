@@ -8,7 +8,7 @@ use borrow.Author.Tests.{eq-eqb, ne-eqb, lt-ltb, le-ltb}
 use lib.Bits.{bitXor, differ, xor-step}
 use lib.ListN.{length, getD, set}
 use Rattle.scope.specs.Base.{Step, listBelow}
-use Rattle.codes.proofs.Lists.{length-listFrom, getD-below}
+use Rattle.lists.proofs.Made.{length-listFrom, getD-below}
 use Rattle.memory.proofs.InPlace.{At, at-step, at-end, rebuilt-only, sweeps}
 use Rattle.cases.specs.Held as held
 use Rattle.cases.specs.Held.{flipOf, lent8, lent16, lentWord, wordAfter}

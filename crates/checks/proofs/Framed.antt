@@ -24,14 +24,14 @@ use Rattle.scope.specs.declared.Place.the-variants.{Nothing}
 use Rattle.scope.specs.declared.Answer.{Answer}
 use Rattle.scope.specs.declared.Answer.the-variants.{Done, Refused}
 use Rattle.refusals.proofs.Rows.{index-below}
-use Rattle.refusals.proofs.InOrder.{first-passed, then-passed, if-passed, each-passed}
+use Rattle.refusals.proofs.InOrder.{first-passed, then-passed, if-passed, each-passed, then-same, then-then, order-same}
 use Rattle.layout.proofs.Going.{Going, going-step, going-refused}
 use Rattle.preamble.specs.Layout as laid
 use Rattle.preamble.specs.Layout.{layoutChecks}
 use Rattle.preamble.proofs.Checks.{layout-order}
 use Rattle.checks.specs.Slices as slc
 use Rattle.checks.specs.Slices.{sliceCheckBy, slicesBy, wordsBy, framedBy, Shortests}
-use Rattle.checks.proofs.Shortness.{shortest-none, longest-none}
+use Rattle.codes.proofs.Shortness.{shortest-none, longest-none}
 
 -- ---- the loop over the slices
 
@@ -115,21 +115,6 @@ short-long ls = go (ℕ-discrete (longest ls) 0)
 slice-own : (frame : List ℕ) (g : Geometry) (lengths shorts : List ℕ) (s : ℕ) → getD shorts (planeIndex frame g s) 0 ≡ shortest (sliceLengths frame g lengths s) → slicesBy frame g shorts s ≡ sliceCheck frame g lengths s
 unfolding slc.slicesBy slc.sliceRule slc.sizeCheck lay.sliceAt frm.sliceCheck frm.fewestBytes lay.samplesIn
 slice-own frame g lengths shorts s e = rw (e, short-long (sliceLengths frame g lengths s))
-
--- checks in order that agree one by one
-pub order-same : (n : ℕ) (f h : ℕ → Answer) → ((s : ℕ) → s < n → f s ≡ h s) → inOrder n f ≡ inOrder n h
-unfolding rfs.inOrder
-order-same zero f h e = refl
-order-same (suc n) f h e = rw (order-same n f h (λ s l. e s (omega arith)), e n (omega arith))
-
--- what follows a check matters only where it passes
-then-same : (a b c : Answer) → (Done ≡ a → b ≡ c) → (a andThen b) ≡ (a andThen c)
-then-same Done b c h = h refl
-then-same (Refused n w) b c h = refl
-
-then-then : (a b c : Answer) → ((a andThen b) andThen c) ≡ (a andThen b andThen c)
-then-then Done b c = refl
-then-then (Refused n w) b c = refl
 
 -- 5 to 14 by what the lengths answer, and, where they are not refused, by what the workspace answers and each plane's shortest word
 pub framed-is : (frame : List ℕ) (g : Geometry) (lengths : List ℕ) (words room room′ : Answer) (shorts : List ℕ) → words ≡ inOrder (planeCount g) (lengthCheck g lengths) → (words ≡ Done → room ≡ room′) → (words ≡ Done → (p : ℕ) → p < planeCount g → getD shorts p 0 ≡ shortest (lengthsOf g lengths p)) → framedBy frame g words room shorts ≡ frameChecks frame g lengths room′

@@ -1,4 +1,3 @@
-pub mod Shortness
 pub mod Sliced
 pub mod Framed
 pub mod TooLong

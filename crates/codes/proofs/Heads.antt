@@ -13,11 +13,13 @@ use lib.ListN.{length}
 use lib.Dec.{eqb, ltb, leb}
 use lib.Pow.{pow-mono, pow-pos}
 use borrow.Author.Tests.{eq-eqb, lt-ltb, le-ltb, le-leb, ltb-true, eqb-true, leb-true}
-use Rattle.scope.proofs.Tests.{and-both}
 use Rattle.scope.specs.Base.{halfUp, one, count, sumBelow}
 use Rattle.scope.specs.Words.{longest, startDown, first, wordOf, lengthOf, shares, isHead, headBelow, heads, need, needFrom}
+use Rattle.lists.proofs.Sums.{sum-steps, sum-le}
 use Rattle.codes.specs.Tiers.{end}
-use Rattle.codes.proofs.Counts.{which, one-le, at-most-longest}
+use Rattle.codes.proofs.Counts.{at-most-longest}
+use Rattle.lists.proofs.Counts.{one-le}
+use Rattle.lists.proofs.Tests.{which, and-both, or-right, or-cases}
 use Rattle.codes.proofs.Words.{Has, has, before-shorter, word-lt-end}
 use Rattle.codes.proofs.Kraft.{end-fits}
 
@@ -81,14 +83,6 @@ begins-longer ls (suc g) l v h a = elim (decLe (longest ls) l) [
 ]
 
 -- ---- the heads
-
-or-right : (a b : Bool) → b ≡ true → (a || b) ≡ true
-or-right true b e = refl
-or-right false b e = e
-
-or-cases : (a b : Bool) → (a || b) ≡ true → (a ≡ true) ⊎ (b ≡ true)
-or-cases true b e = inl refl
-or-cases false b e = inr e
 
 -- the first twelve bits of a longer word are a head
 pub head-yes : (ls : List ℕ) (x n s : ℕ) → s < n → 12 < lengthOf ls s → wordOf ls s / 2 ^ (lengthOf ls s - 12) ≡ x
@@ -157,14 +151,6 @@ no-head-short ls x (suc n) h =
     let b : lengthOf ls n ≤ 12 = le-trans (at-most-longest ls n) h in
     simp (le-ltb 12 (lengthOf ls n) b, no-head-short ls x n h)
 
-sum-steps : (f : ℕ → ℕ) (k : ℕ) → ((x : ℕ) → x < k → f x ≡ 1) → ((x : ℕ) → k ≤ x → f x ≡ 0) → (n : ℕ) → sumBelow n f ≡ min n k
-unfolding sumBelow
-sum-steps f k a b zero = omega arith
-sum-steps f k a b (suc n) = elim (decLe k n) [
-  | yes h ↦ omega (arith, sum-steps f k a b n, b n h)
-  | no h ↦ (let l : n < k = omega (arith, h) in omega (arith, sum-steps f k a b n, a n l))
-]
-
 -- ---- S
 
 -- the words of 12 bits start within their range
@@ -199,11 +185,6 @@ need-first ls k f s h = go (decLe (longest ls) 12)
 -- no second part has more than 2^18 slots
 pub second-small : (m s : ℕ) → m ≤ 18 → s ≤ 4096 → s * 2 ^ (m - 12) ≤ 262144
 second-small m s k f = mul-le-mul f (pow-mono {i = m - 12} {j = 6} (omega arith))
-
-sum-le : (f : ℕ → Bool) (n : ℕ) → sumBelow n (λ x. one (f x)) ≤ n
-unfolding sumBelow
-sum-le f zero = omega arith
-sum-le f (suc n) = omega (arith, sum-le f n, one-le (f n))
 
 -- no need is 0
 pub need-some : (ls : List ℕ) → 0 < need ls

@@ -1,9 +1,9 @@
 pub mod Counts
+pub mod Shortness
 pub mod Words
 pub mod Kraft
 pub mod Accumulator
 pub mod Heads
-pub mod Lists
 pub mod Chains
 pub mod Table
 pub mod Lookup

@@ -20,7 +20,8 @@ use Rattle.scope.specs.Words.{longest, first, wordOf, lengthOf, shares, headBel
 use Rattle.scope.specs.Lookup.{packed, unpacked, beginsIn, wordIn, firstPart, tableOf, lookupIn}
 use Rattle.scope.specs.declared.Found.{Found}
 use Rattle.scope.specs.declared.Found.the-variants.{Word, NoWord}
-use Rattle.codes.proofs.Counts.{which, at-most-longest}
+use Rattle.codes.proofs.Counts.{at-most-longest}
+use Rattle.lists.proofs.Tests.{which}
 use Rattle.bits.proofs.Windows.{window-small, window-head}
 use Rattle.codes.proofs.Words.{begins-of-test, FoundIn, found-in}
 use Rattle.codes.proofs.Heads.{head-yes, no-head, no-head-short, heads-first}

@@ -13,13 +13,14 @@ use mathlib.Core.Bool.{true, false, true≢false}
 use lib.Dec.{eqb, ltb}
 use lib.ListN.{length, take}
 use borrow.Author.Tests.{eq-eqb, lt-ltb, ltb-true, eqb-true}
-use Rattle.scope.proofs.Tests.{and-both}
 use Rattle.scope.specs.Base.{count}
 use Rattle.scope.specs.Bits.{window}
 use Rattle.scope.specs.Words.{longest, startDown, first, wordOf, lengthOf, beginsWith, wordBelow, wordAt, Begins}
 use Rattle.scope.specs.declared.Found.the-variants.{Word, NoWord}
 use Rattle.codes.specs.Tiers.{end}
-use Rattle.codes.proofs.Counts.{which, count-at, count-apart, at-rank, Ranked, at-most-longest}
+use Rattle.codes.proofs.Counts.{at-most-longest}
+use Rattle.lists.proofs.Counts.{count-at, count-apart, at-rank, Ranked}
+use Rattle.lists.proofs.Tests.{which, and-both}
 use Rattle.bits.proofs.Windows.{window-prefix}
 
 -- ---- the words of one length, and those of the lengths above it

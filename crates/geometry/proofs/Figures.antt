@@ -12,14 +12,16 @@ use borrow.Author.Tests.{ne-eqb}
 use borrow.Author.Needs.{needs}
 use lib.Dec.{eqb}
 use lib.Pow.{pow-mono, pow-pos}
-use Rattle.memory.proofs.Powers.{shl-one}
+use Rattle.lists.proofs.Powers.{shl-one}
 use Rattle.scope.specs.Base as base
 use Rattle.scope.specs.Base.{sumBelow}
 use Rattle.scope.specs.Geometry as geo
 use Rattle.scope.specs.Geometry.{subsampled, correlated, planeCount, slicesPerPlane, small, planeWidth, planeHeight, planeSliceHeight, firstRow, rowsAt, planeSamples, allSamples, swapped, orderOf, planeStart, rowStart}
 use Rattle.scope.specs.declared.Geometry.{Geometry}
+use Rattle.lists.proofs.Tests.{told-yes, told-no, test-yes, test-no}
 use Rattle.geometry.specs.Sound.{Sound}
-use Rattle.geometry.proofs.Places.{part-some, part-most, height-fits, planes-most, planes-some, place-in, order}
+use Rattle.geometry.proofs.Places.{height-fits, planes-most, planes-some, place-in, order}
+use Rattle.lists.proofs.Numbers.{part-some, part-most, product-most}
 
 -- ---- sides
 
@@ -39,29 +41,9 @@ module _ (g : Geometry) (p : ℕ) (r : Bool) (e : r ≡ subsampled (g .family)) 
   unfolding geo.small
   small-no t = rw (← e, t)
 
--- a number by a test that was called, and found true or false
-pub told-yes : (t r : Bool) (x y : ℕ) → r ≡ t → r ≡ true → x ≡ cond t x y
-told-yes t r x y e h = rw (← e, h)
-
--- the same, found false
-pub told-no : (t r : Bool) (x y : ℕ) → r ≡ t → r ≡ false → y ≡ cond t x y
-told-no t r x y e h = rw (← e, h)
-
--- by a test that the code makes itself
-pub test-yes : (t : Bool) (x y : ℕ) → t ≡ true → x ≡ cond t x y
-test-yes t x y h = rw h
-
--- the same, found false
-pub test-no : (t : Bool) (x y : ℕ) → t ≡ false → y ≡ cond t x y
-test-no t x y h = rw h
-
 pub ruleset sides = (small-one, small-two, small-no, told-yes, told-no, test-yes, test-no, part-some, part-most, needs)
 
 -- ---- products of numbers that have a cap
-
--- a product of numbers that have a cap has one
-pub product-most : (x y n m : ℕ) → x ≤ n → y ≤ m → x * y ≤ n * m
-product-most x y n m h k = mul-le-mul h k
 
 -- of two sides: at most 268,435,456
 pub samples-most : (x y : ℕ) → x ≤ 16384 → y ≤ 16384 → x * y ≤ 268435456
@@ -75,10 +57,6 @@ samples-fit x y h k = record { fits = omega (arith, samples-most x y h k) }
 pub samples-are : (g : Geometry) (p w h : ℕ) → w ≡ planeWidth g p → h ≡ planeHeight g p → w * h ≡ planeSamples g p
 unfolding geo.planeSamples
 samples-are g p w h a b = rw (a, b)
-
--- equals multiplied are equal
-pub product-are : (x y a b : ℕ) → x ≡ a → y ≡ b → x * y ≡ a * b
-product-are x y a b e f = rw (e, f)
 
 -- ---- 2^depth
 

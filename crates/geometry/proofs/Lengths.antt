@@ -12,7 +12,7 @@ use Rattle.scope.specs.Geometry as geo
 use Rattle.scope.specs.Geometry.{planeCount, lengthsOf}
 use Rattle.scope.specs.declared.Geometry.{Geometry}
 use Rattle.geometry.proofs.Places.{planes-most}
-use Rattle.geometry.proofs.Figures.{product-most}
+use Rattle.lists.proofs.Numbers.{product-most}
 
 module _ (g : Geometry) (lengths : List ℕ) (p n : ℕ) where
   -- the part is plane p's lengths

@@ -3,7 +3,7 @@
 -- nothing that restates them. Assumes nothing.
 use mathlib.Core.Path.{sym, _∙_}
 use contract.Lifetimes.{Lfts}
-use Rattle.geometry.specs.Settled.{Settles}
+use Rattle.lists.specs.Settled.{Settles}
 use borrow.Fn.World.{ArgsD}
 use Rattle.geometry.proofs.plane_count as plane-count
 use Rattle.geometry.proofs.plane_count.Reads as plane-count-reads

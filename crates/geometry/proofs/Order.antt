@@ -6,27 +6,13 @@ use native.Mathlib.Nat.{add-zero, add-suc}
 use native.Mathlib.Omega.{arith}
 use Rattle.scope.specs.Base as base
 use Rattle.scope.specs.Base.{sumBelow}
+use Rattle.lists.proofs.Sums.{sum-next}
 
 -- an order of P stretches: number p goes to the place σ p, and is as large as the one that the place would have by itself
 pub record Order (P : ℕ) (σ size : ℕ → ℕ) : Type 0 where
   pub back : (p : ℕ) → p < P → σ (σ p) ≡ p
   pub among : (p : ℕ) → p < P → σ p < P
   pub alike : (p : ℕ) → p < P → size (σ p) ≡ size p
-
-module _ (size : ℕ → ℕ) where
-  -- more stretches take no less
-  pub sum-upto : (a n : ℕ) → sumBelow a size ≤ sumBelow (a + n) size
-  unfolding base.sumBelow
-  sum-upto a zero = rw add-zero (omega arith)
-  sum-upto a (suc n) = rw add-suc (omega (arith, sum-upto a n))
-
-  -- a stretch ends where the next begins, or before
-  pub sum-next : (a b : ℕ) → a < b → sumBelow a size + size a ≤ sumBelow b size
-  unfolding base.sumBelow
-  sum-next a b h =
-      let e : suc a + (b - suc a) ≡ b = omega arith in
-      let k : sumBelow (suc a) size ≤ sumBelow (suc a + (b - suc a)) size = sum-upto (suc a) (b - suc a) in
-      rw e at k
 
 -- stretch p lies within them all
 pub stretch-in : (P : ℕ) (σ size : ℕ → ℕ) → Order P σ size → (p : ℕ) → p < P → sumBelow (σ p) size + size p ≤ sumBelow P size

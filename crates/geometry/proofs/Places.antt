@@ -11,24 +11,13 @@ use Rattle.scope.specs.Geometry.{planesOf, subsampled, correlated, planeCount, 
 use Rattle.scope.specs.declared.Family.{Family}
 use Rattle.scope.specs.declared.Family.the-variants.{Gray, Rgb, Yuv, Rgba, Yuva}
 use Rattle.scope.specs.declared.Geometry.{Geometry}
+use Rattle.lists.proofs.Numbers.{part-some, part-most, below-up, enough, below-up-small, enough-small}
 use Rattle.geometry.specs.Sound.{Sound}
 use Rattle.geometry.specs.Places as places
 use Rattle.geometry.specs.Places.{filled}
 use Rattle.geometry.proofs.Order.{Order, stretch-in}
 
 -- ---- sides
-
--- a side that a factor divides is not nothing
-pub part-some : (x s : ℕ) → 1 ≤ x → x % s ≡ 0 → 1 ≤ x / s
-part-some x s h e = go (x / s) refl
-  where
-    go : (q : ℕ) → x / s ≡ q → 1 ≤ q
-    go zero k = omega (arith, div-add-mod x s, ap (λ (y : ℕ). s * y) k, mul-zero s)
-    go (suc q) k = omega arith
-
--- nor is it larger than the whole
-pub part-most : (x s n : ℕ) → x ≤ n → x / s ≤ n
-part-most x s n h = omega (arith, div-le-self x s)
 
 -- both, of the side of any plane
 side : (t : Bool) (x s : ℕ) → (1 ≤ x) × (x ≤ 16384) → x % s ≡ 0 → (1 ≤ cond t (x / s) x) × (cond t (x / s) x ≤ 16384)
@@ -68,27 +57,6 @@ planes-some Rgba = omega arith
 planes-some Yuva = omega arith
 
 -- ---- places
-
--- k slices of b rows are fewer than h rows for k below h / b rounded up, and that many slices are enough
-below-up : (h b k : ℕ) → 0 < b → k < overUp h b → k * b < h
-below-up h b k l e = omega (arith, le-div-iff-mul-le {k = b} {x = suc k} {y = h + (b - 1)} l .0 e, suc-mul k b)
-
-enough : (h b : ℕ) → 0 < b → h ≤ overUp h b * b
-enough h b l = omega (arith, lt-div-mul-add {a = h + (b - 1)} {b = b} l)
-
--- the same of h / s and b / s, where s divides both
-module _ (h b s : ℕ) (ls : 0 < s) (lb : 0 < b) (eh : h % s ≡ 0) (eb : b % s ≡ 0) where
-  times : (k : ℕ) → s * (k * (b / s)) ≡ k * b
-  times k = mul-left-comm s k (b / s) ∙ ap (λ (y : ℕ). k * y) (whole b eb)
-    where
-      whole : (x : ℕ) → x % s ≡ 0 → s * (x / s) ≡ x
-      whole x e = omega (arith, div-add-mod x s)
-
-  below-up-small : (k : ℕ) → k < overUp h b → k * (b / s) < h / s
-  below-up-small k l = lt-of-mul-lt-mul-left s (omega (arith, times k, below-up h b k lb l, div-add-mod h s))
-
-  enough-small : h / s ≤ overUp h b * (b / s)
-  enough-small = le-of-mul-le-mul-left (omega (arith, times (overUp h b), enough h b lb, div-add-mod h s)) ls
 
 module _ (g : Geometry) (ok : Sound g) where
   -- place k starts within its plane

@@ -1,6 +1,7 @@
 -- Document 01, "Refusal numbers", 1 to 4: each as src/lib.rt finds it, and what is known once there is none. Assumes nothing.
 use mathlib.Core.Path.{_≡_, refl, sym, _∙_}
 use mathlib.Core.Bool.{Bool, true, false, not, _&&_, _||_}
+use mathlib.Core.Logic.{inl, inr}
 use Prim.Native.Nat.{ℕ, _*_, _%_, _^_, _≤_, _<_}
 use native.Mathlib.Omega.{arith}
 use mir.Syntax.{w64}
@@ -20,45 +21,12 @@ use Rattle.scope.specs.declared.Place.the-variants.{Nothing}
 use Rattle.scope.specs.declared.Answer.{Answer}
 use Rattle.scope.specs.declared.Answer.the-variants.{Done, Refused}
 use Rattle.geometry.specs.Sound.{Sound}
-use Rattle.scope.proofs.Tests.{and-both}
+use Rattle.lists.proofs.Tests.{and-both, yes-is, no-is, and-first, and-before, and-second, and-none, and-true, or-cases}
 use Rattle.refusals.proofs.InOrder.{first-passed, then-passed, if-passed}
-use Rattle.geometry.proofs.Figures.{product-most, few-planes}
+use Rattle.geometry.proofs.Figures.{few-planes}
+use Rattle.lists.proofs.Numbers.{product-most}
 use Rattle.incoming.specs.Steps as steps
 use Rattle.incoming.specs.Steps.{shapeChecks, sizeChecks}
-
--- ---- tests that are called one after the other
-
--- a test that was called, and found true or false
-pub yes-is : (r t : Bool) → r ≡ t → not r ≡ false → t ≡ true
-yes-is r t e h = sym e ∙ not-false r h
-
--- the same, found false
-pub no-is : (r t : Bool) → r ≡ t → not r ≡ true → t ≡ false
-no-is r t e h = sym e ∙ not-true r h
-
--- several at once: the first that is false settles it, else the last
-pub and-first : (a b : Bool) → a ≡ false → false ≡ (a && b)
-and-first a b e = rw e
-
--- an earlier one of them was false
-pub and-before : (a b : Bool) → false ≡ a → false ≡ (a && b)
-and-before a b e = rw (← e)
-
--- the first is true: the second settles it
-pub and-second : (a b r : Bool) → a ≡ true → r ≡ b → r ≡ (a && b)
-and-second a b r e h = rw e h
-
--- the second is false
-pub and-none : (a b : Bool) → a ≡ true → b ≡ false → false ≡ (a && b)
-and-none a b e h = rw (e, h)
-
--- both are true
-pub and-true : (a b : Bool) → a ≡ true → b ≡ true → (a && b) ≡ true
-and-true a b e h = rw (e, h)
-
-or-either : (a b : Bool) (P : Type 0) → (a || b) ≡ true → (a ≡ true → P) → (b ≡ true → P) → P
-or-either true b P e l r = l refl
-or-either false b P e l r = r e
 
 -- ---- refusal 1
 
@@ -120,7 +88,10 @@ size-is n e =
 
 factor-is : (f : Family) (s : ℕ) → factorFits f s ≡ true → (1 ≤ s) × (s ≤ 2)
 unfolding geo.factorFits
-factor-is f s e = or-either (eqb s 1) _ ((1 ≤ s) × (s ≤ 2)) e (λ h. one (eqb-true s 1 h)) (λ h. two (eqb-true s 2 (and-both (subsampled f) (eqb s 2) h .1)))
+factor-is f s e = elim (or-cases (eqb s 1) (subsampled f && eqb s 2) e) [
+  | inl h ↦ one (eqb-true s 1 h)
+  | inr h ↦ two (eqb-true s 2 (and-both (subsampled f) (eqb s 2) h .1))
+]
   where
     one : s ≡ 1 → (1 ≤ s) × (s ≤ 2)
     one z = omega arith
@@ -130,10 +101,13 @@ factor-is f s e = or-either (eqb s 1) _ ((1 ≤ s) × (s ≤ 2)) e (λ h. one (e
 
 -- the entry for depths 10, 12 and 14 takes no other
 pub depth-deep : (depth : ℕ) → depthFits true depth ≡ true → (10 ≤ depth) × (depth ≤ 14)
-depth-deep depth e =
-    or-either (eqb depth 10 || eqb depth 12) (eqb depth 14) ((10 ≤ depth) × (depth ≤ 14)) e
-    (λ h. or-either (eqb depth 10) (eqb depth 12) ((10 ≤ depth) × (depth ≤ 14)) h (λ k. a (eqb-true depth 10 k)) (λ k. b (eqb-true depth 12 k)))
-    (λ k. d (eqb-true depth 14 k))
+depth-deep depth e = elim (or-cases (eqb depth 10 || eqb depth 12) (eqb depth 14) e) [
+  | inl h ↦ elim (or-cases (eqb depth 10) (eqb depth 12) h) [
+    | inl k ↦ a (eqb-true depth 10 k)
+    | inr k ↦ b (eqb-true depth 12 k)
+  ]
+  | inr k ↦ d (eqb-true depth 14 k)
+]
   where
     a : depth ≡ 10 → (10 ≤ depth) × (depth ≤ 14)
     a z = omega arith

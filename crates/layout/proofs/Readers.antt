@@ -58,10 +58,6 @@ index-is frame g t s r e h = rw e at h
 pub wide-is : (frame : List ℕ) (at b r : ℕ) → b ≡ getD frame at 0 → r ≡ b → r ≡ getD frame at 0
 wide-is frame at b r e k = k ∙ e
 
--- past the end there is 0
-pub none-there : (frame : List ℕ) (at : ℕ) → length frame ≤ at → 0 ≡ getD frame at 0
-none-there frame at h = sym (List·getD-eq-default frame 0 {n = at} h)
-
 -- ---- a slice as one record
 
 -- a slice's number is below 65,536

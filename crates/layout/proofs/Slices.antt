@@ -17,10 +17,10 @@ use Rattle.scope.specs.Layout.{planeIndex, namedBefore}
 use Rattle.scope.specs.Frame.{indexCheck}
 use Rattle.scope.specs.declared.Geometry.{Geometry}
 use Rattle.scope.specs.declared.Answer.the-variants.{Done}
-use Rattle.geometry.proofs.Counts.{all-full, sum-one-more, sum-none}
+use Rattle.lists.proofs.Sums.{all-full, sum-one-more, sum-none}
 use Rattle.refusals.proofs.Rows.{index-below, index-room}
 use Rattle.refusals.proofs.InOrder.{each-passed}
-use Rattle.geometry.proofs.Four.{four-zeros}
+use Rattle.lists.proofs.Made.{zero-at}
 
 -- the array of counts
 pub record Counted (frame : List ℕ) (g : Geometry) (seen : List ℕ) (s : ℕ) : Type 0 where
@@ -82,4 +82,4 @@ module _ (frame : List ℕ) (g : Geometry) where
 module _ (frame : List ℕ) (g : Geometry) where
   -- four zeros count none
   pub counted-start : Counted frame g (0 ∷ 0 ∷ 0 ∷ 0 ∷ []) 0
-  counted-start = counted-none frame g (0 ∷ 0 ∷ 0 ∷ 0 ∷ []) refl four-zeros
+  counted-start = counted-none frame g (0 ∷ 0 ∷ 0 ∷ 0 ∷ []) refl (zero-at 0 4)

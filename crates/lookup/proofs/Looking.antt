@@ -9,10 +9,7 @@ use Rattle.scope.specs.Bits.{window}
 use Rattle.scope.specs.Lookup.{unpacked, lookupIn}
 use Rattle.scope.specs.declared.Found.{Found}
 use Rattle.scope.specs.declared.Found.the-variants.{Word, NoWord}
-
--- a word past the end is 0
-pub past-end : (words : List ℕ) (i : ℕ) → length words ≤ i → 0 ≡ getD words i 0
-past-end words i h = sym (List·getD-eq-default words 0 h)
+use Rattle.lists.proofs.Made.{past-end}
 
 -- ---- what a workspace word says
 

@@ -24,7 +24,7 @@ use Rattle.scope.specs.declared.Place.the-variants.{Nothing}
 use Rattle.scope.specs.declared.Answer.{Answer}
 use Rattle.scope.specs.declared.Answer.the-variants.{Done, Refused}
 use Rattle.geometry.specs.Sound.{Sound}
-use Rattle.refusals.proofs.InOrder.{each-passed}
+use Rattle.refusals.proofs.InOrder.{each-passed, order-same}
 use Rattle.refusals.proofs.Rows.{index-below}
 use Rattle.incoming.proofs.Refused as lent
 use Rattle.incoming.proofs.Refused.{depth-shallow, depth-deep}
@@ -44,7 +44,7 @@ use Rattle.tables.proofs.Told.{answer-is, need-is, plane-short, plane-full, pla
 use Rattle.planes.specs.Standing.{Planes, coloured}
 use Rattle.planes.proofs.Colours.{planes-same, picture-is}
 use Rattle.scope.specs.declared.Found.{Found}
-use Rattle.checks.proofs.Framed.{framed-is, order-same, frame-order, frame-lengths, frame-room, frame-slices, room-in}
+use Rattle.checks.proofs.Framed.{framed-is, frame-order, frame-lengths, frame-room, frame-slices, room-in}
 use Rattle.picture.specs.Steps as stp
 use Rattle.picture.specs.Steps.{readAt, samplesFor, gathered, planeOf, tableLook, Ready, pictureBy}
 

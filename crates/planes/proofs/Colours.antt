@@ -20,7 +20,8 @@ use Rattle.scope.specs.Frame as frm
 use Rattle.scope.specs.Frame.{wirePlane, bufferPlane, planesUpTo, pictureOf}
 use Rattle.scope.specs.declared.Geometry.{Geometry}
 use Rattle.geometry.specs.Sound.{Sound}
-use Rattle.geometry.proofs.Order.{Order, sum-upto, stretch-in}
+use Rattle.geometry.proofs.Order.{Order, stretch-in}
+use Rattle.lists.proofs.Sums.{sum-upto}
 use Rattle.geometry.proofs.Places.{order, sizes-alike, correlated-three}
 use Rattle.planes.specs.Standing.{Planes, withGreen, coloured}
 use Rattle.lists.proofs.Parts.{put-keeps}

@@ -15,7 +15,8 @@ use Rattle.scope.specs.Base.{part, replaced, sumBelow}
 use Rattle.scope.specs.Base as base
 use Rattle.scope.specs.Frame as frm
 use Rattle.scope.specs.Frame.{planesUpTo}
-use Rattle.geometry.proofs.Order.{Order, sum-next, stretch-in}
+use Rattle.geometry.proofs.Order.{Order, stretch-in}
+use Rattle.lists.proofs.Sums.{sum-next}
 use Rattle.lists.proofs.Parts.{part-before, part-after, part-more, put-keeps}
 
 -- plane p holds xs p so far, so p samples long

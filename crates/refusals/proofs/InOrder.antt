@@ -31,6 +31,22 @@ pub both-passed : (a b : Bool) (n m : ℕ) (p q : Place) → Done ≡ (refuseIf 
 both-passed a b n m p q e =
     (if-passed a n p (first-passed (refuseIf a n p) (refuseIf b m q) e), if-passed b m q (then-passed (refuseIf a n p) (refuseIf b m q) e))
 
+-- what follows a check matters only where it passes
+pub then-same : (a b c : Answer) → (Done ≡ a → b ≡ c) → (a andThen b) ≡ (a andThen c)
+then-same Done b c h = h refl
+then-same (Refused n w) b c h = refl
+
+-- three checks are two and one, or one and two
+pub then-then : (a b c : Answer) → ((a andThen b) andThen c) ≡ (a andThen b andThen c)
+then-then Done b c = refl
+then-then (Refused n w) b c = refl
+
+-- checks in order that agree one by one
+pub order-same : (n : ℕ) (f h : ℕ → Answer) → ((s : ℕ) → s < n → f s ≡ h s) → inOrder n f ≡ inOrder n h
+unfolding inOrder
+order-same zero f h e = refl
+order-same (suc n) f h e = rw (order-same n f h (λ s l. e s (omega arith)), e n (omega arith))
+
 -- the checks f 0, f 1, ..
 module _ (f : ℕ → Answer) where
   -- before the first

@@ -3,7 +3,7 @@
 -- nothing that restates them. Assumes nothing.
 use mathlib.Core.Path.{sym, _∙_}
 use contract.Lifetimes.{Lfts}
-use Rattle.geometry.specs.Settled.{Settles}
+use Rattle.lists.specs.Settled.{Settles}
 use borrow.Fn.World.{ArgsD}
 use Rattle.stretches.proofs.plane_samples as plane-samples
 use Rattle.stretches.proofs.plane_samples.Reads as plane-samples-reads

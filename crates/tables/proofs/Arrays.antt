@@ -10,7 +10,7 @@ use lib.Dec.{ltb}
 use lib.ListN.{length, getD, set, length-set}
 use lib.Seq.{getD-set-same, getD-set-other}
 use Rattle.scope.specs.Base as base
-use Rattle.codes.proofs.Lists.{length-listFrom, getD-below, listBelow-only}
+use Rattle.lists.proofs.Made.{length-listFrom, getD-below, listBelow-only}
 use Rattle.tables.specs.Codes.{perPlane, zero4}
 
 -- there are four

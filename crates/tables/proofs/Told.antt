@@ -21,9 +21,9 @@ use Rattle.scope.specs.declared.Geometry.{Geometry}
 use Rattle.scope.specs.declared.Place.the-variants.{Plane, Nothing}
 use Rattle.scope.specs.declared.Answer.{Answer}
 use Rattle.scope.specs.declared.Answer.the-variants.{Done, Refused}
-use Rattle.words.proofs.Shortness.{shortest-most}
+use Rattle.codes.proofs.Shortness.{shortest-most}
 use Rattle.geometry.proofs.Places.{planes-most}
-use Rattle.geometry.proofs.Order.{sum-next}
+use Rattle.lists.proofs.Sums.{sum-next}
 use Rattle.refusals.proofs.InOrder.{both-passed, each-passed}
 use Rattle.tables.specs.Tables.{planeNeed, tableStart, Tables}
 use Rattle.tables.specs.Codes.{noCodes, codesUpTo, codesBy, codesOf}

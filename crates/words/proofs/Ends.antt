@@ -13,7 +13,7 @@ use Rattle.scope.specs.Words.{longest, shortest}
 use Rattle.codes.proofs.Counts.{longest-count}
 use Rattle.words.specs.Tally.{countsOf, highest, lowest}
 use Rattle.words.proofs.Tallying.{counts-at}
-use Rattle.words.proofs.Shortness.{shortest-most, none-at-all, none-below, none-above, shortest-count}
+use Rattle.codes.proofs.Shortness.{shortest-most, none-at-all, none-below, none-above, shortest-count}
 
 -- ---- one place
 

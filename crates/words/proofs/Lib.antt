@@ -1,5 +1,4 @@
 pub mod Tallying
-pub mod Shortness
 pub mod Ends
 pub mod Walking
 pub mod Weighing

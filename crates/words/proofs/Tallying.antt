@@ -15,8 +15,9 @@ use lib.Seq.{getD-set-same, getD-set-other, take-all, length-take-le}
 use borrow.Author.Tests.{lt-ltb, le-ltb}
 use Rattle.scope.specs.Base.{one, count}
 use Rattle.scope.specs.Words.{longest, tooLong}
-use Rattle.codes.proofs.Counts.{longest-next, at-most-longest, count-next, count-le, one-same, one-other}
-use Rattle.codes.proofs.Lists.{listBelow-only, getD-below}
+use Rattle.codes.proofs.Counts.{longest-next, at-most-longest}
+use Rattle.lists.proofs.Counts.{count-next, count-le, one-same, one-other}
+use Rattle.lists.proofs.Made.{listBelow-only, getD-below}
 use Rattle.words.specs.Tally.{countsOf}
 
 -- the first i symbols are counted, and none of them has a length above 18

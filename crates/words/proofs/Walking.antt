@@ -12,9 +12,9 @@ use lib.ListN.{length, getD, set, length-set, replicate}
 use lib.Seq.{getD-set-same, getD-set-other, ext-getD}
 use Rattle.scope.specs.Base.{count, listFrom}
 use Rattle.scope.specs.Words.{longest, shares, overfull, first}
-use Rattle.memory.proofs.Powers.{shl-one}
+use Rattle.lists.proofs.Powers.{shl-one}
 use Rattle.codes.specs.Tiers.{running, summed}
-use Rattle.codes.proofs.Lists.{getD-from, length-listFrom}
+use Rattle.lists.proofs.Made.{getD-from, length-listFrom, zero-at}
 use Rattle.codes.proofs.Heads.{none-at-longest}
 use Rattle.codes.proofs.Kraft.{over-none, over-some}
 use Rattle.codes.proofs.Accumulator.{running-start, accumulator-fits}
@@ -54,11 +54,6 @@ pub record Walked (ls at : List ℕ) (a l : ℕ) : Type 0 where
   pub passed : (j : ℕ) → l < j → j ≤ longest ls → summed ls (longest ls - j) < 2 ^ j
   pub written : (j : ℕ) → l < j → getD at j 0 ≡ first ls j
   pub blank : (j : ℕ) → j ≤ l → getD at j 0 ≡ 0
-
-zero-at : (z n j : ℕ) → getD (replicate n z) j z ≡ z
-zero-at z zero j = refl
-zero-at z (suc n) zero = refl
-zero-at z (suc n) (suc j) = zero-at z n j
 
 -- before the longest length nothing is written, and the running end is all ones
 walk-start : (ls : List ℕ) (m : ℕ) → m ≡ longest ls → Walked ls (replicate 19 0) 4294967295 m

@@ -15,8 +15,8 @@ use Rattle.scope.specs.Frame.{lengthCheck}
 use Rattle.scope.specs.declared.Geometry.{Geometry}
 use Rattle.scope.specs.declared.Place.{Place}
 use Rattle.scope.specs.declared.Place.the-variants.{Plane}
-use Rattle.codes.proofs.Counts.{which}
-use Rattle.memory.proofs.Powers.{shl-one}
+use Rattle.lists.proofs.Tests.{which, test-bad, test-good}
+use Rattle.lists.proofs.Powers.{shl-one}
 use Rattle.codes.proofs.Heads.{need-first, need-small, first-small, second-small, none-at-longest}
 use Rattle.codes.proofs.Kraft.{none-over, over-none}
 use Rattle.words.specs.Tally.{countsOf, highest, lowest, Tallied}
@@ -45,14 +45,6 @@ twelve-small ls k f = elim (decLe (longest ls) 12) [
   | yes h ↦ rw (none-at-longest ls 12 h) (omega arith)
   | no h ↦ first-small ls k f (omega (arith, h))
 ]
-
--- the test of `first_words`, both ways
-test-bad : (fits over : Bool) → fits ≡ not over → not fits ≡ true → over ≡ true
-test-bad fits over e a = not-false over (sym e ∙ not-true fits a)
-
--- where it passes
-test-good : (fits over : Bool) → fits ≡ not over → not fits ≡ false → (fits ≡ true) × (over ≡ false)
-test-good fits over e a = (not-false fits a, not-true over (sym e ∙ not-false fits a))
 
 -- long and counts are what `tally` gives
 module _ (ls : List ℕ) (few : length ls ≤ 16384) (long : Bool) (el : long ≡ tooLong ls) where

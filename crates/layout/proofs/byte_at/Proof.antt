@@ -1,4 +1,4 @@
-use Rattle.layout.proofs.Readers.{none-there}
+use Rattle.lists.proofs.Made.{past-end}
 use borrow.Author.Needs.{needs}
 use Rattle.layout.proofs.byte_at.Statement.{statement}
 use Rattle.layout.proofs.byte_at.Tie as tie
@@ -13,7 +13,7 @@ returns c = search needs
 
 -- src/lib.rt:21:1
 returns-2 : tie.Need-returns-2
-returns-2 c = search none-there
+returns-2 c = search past-end
 
 pub byte-at-spec : {M : Type 1} → statement M
 byte-at-spec = tie.close (tie.spec shared-slice-read-result returns returns-2)

@@ -1,5 +1,6 @@
 -- `sides::slice_count` meets its contract: T = P·K (document 01, "Layout"). Assumes nothing.
-use Rattle.geometry.proofs.Figures.{count-fits, count-most, product-are, count-some}
+use Rattle.geometry.proofs.Figures.{count-fits, count-most, count-some}
+use Rattle.lists.proofs.Numbers.{product-are}
 use borrow.Author.Needs.{needs}
 use Rattle.sides.proofs.slice_count.Statement.{statement}
 use Rattle.sides.proofs.slice_count.Tie as tie

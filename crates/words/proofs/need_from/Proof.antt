@@ -5,7 +5,7 @@ use native.Mathlib.Omega.{arith}
 use borrow.Author.Needs.{needs}
 use borrow.Author.Tests.{eq-eqb, ne-eqb, le-leb, lt-leb}
 use Rattle.scope.specs.Words.{needFrom}
-use Rattle.memory.proofs.Powers.{shl-one}
+use Rattle.lists.proofs.Powers.{shl-one}
 use Rattle.words.proofs.Weighing.{second-exact, second-fits}
 use Rattle.words.proofs.need_from.Statement.{statement}
 use Rattle.words.proofs.need_from.Tie as tie

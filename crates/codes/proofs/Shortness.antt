@@ -10,7 +10,7 @@ use Rattle.scope.specs.Base as base
 use Rattle.scope.specs.Base.{count}
 use Rattle.scope.specs.Words as words
 use Rattle.scope.specs.Words.{longest, shorter, shortest}
-use Rattle.codes.proofs.Counts.{one-same, one-other}
+use Rattle.lists.proofs.Counts.{one-same, count-other}
 
 -- ---- the shorter of two
 
@@ -64,18 +64,13 @@ shortest-most (l ∷ ls) = shorter-most l (shortest ls) (longest ls) (shortest-m
 
 -- ---- which symbols have it
 
--- a length that is not x counts nothing for x
-other : (l x : ℕ) (ls : List ℕ) → (l ≡ x → ⊥) → count x (l ∷ ls) ≡ count x ls
-unfolding base.count
-other l x ls h = omega (arith, one-other l x h)
-
 -- where there is no shortest, no symbol has a word
 pub none-at-all : (ls : List ℕ) (x : ℕ) → shortest ls ≡ 0 → 0 < x → count x ls ≡ 0
 unfolding words.shortest base.count
 none-at-all [] x e h = refl
 none-at-all (l ∷ ls) x e h =
     let a : l ≡ 0 = shorter-first l (shortest ls) e in
-    other l x ls (λ q. omega arith) ∙ none-at-all ls x (shorter-second l (shortest ls) e) h
+    count-other l x ls (λ q. omega arith) ∙ none-at-all ls x (shorter-second l (shortest ls) e) h
 
 -- a length below the shorter of two is below each that is one
 below-both : (x a b : ℕ) → 0 < x → x < shorter a b → (a ≡ x → ⊥) × ((b ≡ 0) ⊎ (x < b))
@@ -90,7 +85,7 @@ unfolding words.shortest base.count
 none-below [] x z h = refl
 none-below (l ∷ ls) x z h =
     let k = below-both x l (shortest ls) z h in
-    other l x ls (k .0) ∙ ⊎-elim (λ e. none-at-all ls x e z) (λ b. none-below ls x z b) (k .1)
+    count-other l x ls (k .0) ∙ ⊎-elim (λ e. none-at-all ls x e z) (λ b. none-below ls x z b) (k .1)
 
 -- the shorter of two is one of them
 one-of-both : (a b : ℕ) → 0 < shorter a b → (shorter a b ≡ a) ⊎ ((shorter a b ≡ b) × (0 < b))
@@ -116,4 +111,4 @@ shortest-count (l ∷ ls) h =
 pub none-above : (ls : List ℕ) (x : ℕ) → longest ls < x → count x ls ≡ 0
 unfolding words.longest base.count
 none-above [] x h = refl
-none-above (l ∷ ls) x h = other l x ls (λ q. omega arith) ∙ none-above ls x (omega arith)
+none-above (l ∷ ls) x h = count-other l x ls (λ q. omega arith) ∙ none-above ls x (omega arith)

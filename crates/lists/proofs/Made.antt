@@ -1,11 +1,10 @@
--- Laws of the lists that scope makes element by element, f 0, f 1, .. : a code's words, and the workspace words of its table (document 01,
--- "Words and lookup"). Assumes nothing.
+-- Lists that are made element by element, f 0, f 1, .. , or of one element, and what stands past a list's end. Assumes nothing.
 use mathlib.Core.Path.{_≡_, refl, sym, ap, ap₂, _∙_}
-use Prim.Native.Nat.{ℕ, zero, suc, _+_, _-_, _<_}
+use Prim.Native.Nat.{ℕ, zero, suc, _+_, _-_, _≤_, _<_}
 use native.Mathlib.Nat.{add-suc, suc-add, add-zero, zero-add, not-suc-le-zero, le-of-suc-le-suc}
 use native.Mathlib.Omega.{arith}
 use mathlib.Core.List.{List, _∷_}
-use lib.ListN.{length, getD}
+use lib.ListN.{length, getD, replicate, List·getD-eq-default}
 use lib.Seq.{ext-getD}
 use Rattle.scope.specs.Base.{listFrom, listBelow}
 
@@ -37,3 +36,13 @@ pub listFrom-same : (f g : ℕ → ℕ) → ((i : ℕ) → f i ≡ g i) → (i n
 unfolding listFrom
 listFrom-same f g h i zero = refl
 listFrom-same f g h i (suc n) = ap₂ (λ (x : ℕ) (l : List ℕ). x ∷ l) (h i) (listFrom-same f g h (suc i) n)
+
+-- one element n times, and itself past the end
+pub zero-at : (z n j : ℕ) → getD (replicate n z) j z ≡ z
+zero-at z zero j = refl
+zero-at z (suc n) zero = refl
+zero-at z (suc n) (suc j) = zero-at z n j
+
+-- past the end there is 0
+pub past-end : (xs : List ℕ) (i : ℕ) → length xs ≤ i → 0 ≡ getD xs i 0
+past-end xs i h = sym (List·getD-eq-default xs 0 h)

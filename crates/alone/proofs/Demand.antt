@@ -13,7 +13,7 @@ use Rattle.scope.specs.Alone.{readAnswer, samplesRead, workspaceRead}
 use Rattle.scope.specs.declared.Place.the-variants.{Plane}
 use Rattle.scope.specs.declared.Answer.{Answer}
 use Rattle.scope.specs.declared.Answer.the-variants.{Done, Refused}
-use Rattle.codes.proofs.Counts.{longest-most}
+use Rattle.codes.proofs.Longest.{longest-most}
 use Rattle.codes.proofs.Words.{prefix-free}
 use Rattle.codes.proofs.Kraft.{word-fits}
 use Rattle.codes.proofs.Chains.{chain-exactly, one-chain}

@@ -12,8 +12,6 @@ use Rattle.bits.proofs.raw_u8 as raw-u8
 use Rattle.bits.proofs.raw_u8.Reads as raw-u8-reads
 use Rattle.bits.proofs.raw_u16 as raw-u16
 use Rattle.bits.proofs.raw_u16.Reads as raw-u16-reads
-use Rattle.bits.proofs.unpack_from as unpack-from
-use Rattle.bits.proofs.unpack_from.Reads as unpack-from-reads
 
 pub peek-once : (κs : Lfts 1) (a : ArgsD peek.signature κs) (r₁ r₂ : ResD peek.signature κs) (s₁ s₂ : AtExit peek.ended κs)
     → peek-reads.Post κs a r₁ s₁ → peek-reads.Post κs a r₂ s₂ → r₁ ≡ r₂
@@ -27,7 +25,3 @@ raw-u8-once κs a r₁ r₂ s₁ s₂ p q = p ∙ sym q
 pub raw-u16-once : (κs : Lfts 2) (a : ArgsD raw-u16.signature κs) (r₁ r₂ : ResD raw-u16.signature κs) (s₁ s₂ : AtExit raw-u16.ended κs)
     → raw-u16-reads.Post κs a r₁ s₁ → raw-u16-reads.Post κs a r₂ s₂ → now (s₁ .1 .1 .1 .0) ≡ now (s₂ .1 .1 .1 .0)
 raw-u16-once κs a r₁ r₂ s₁ s₂ p q = p ∙ sym q
-
-pub unpack-from-once : (κs : Lfts 2) (a : ArgsD unpack-from.signature κs) (r₁ r₂ : ResD unpack-from.signature κs) (s₁ s₂ : AtExit unpack-from.ended κs)
-    → unpack-from-reads.Post κs a r₁ s₁ → unpack-from-reads.Post κs a r₂ s₂ → now (s₁ .1 .1 .1 .0) ≡ now (s₂ .1 .1 .1 .0)
-unpack-from-once κs a r₁ r₂ s₁ s₂ p q = p ∙ sym q

@@ -2,7 +2,7 @@
 -- cites these and not how a window is made. Assumes nothing.
 use mathlib.Core.Path.{_≡_, refl, sym, ap, _∙_}
 use Prim.Native.Nat.{ℕ, zero, suc, _+_, _-_, _*_, _/_, _%_, _^_, _≤_, _<_}
-use native.Mathlib.Nat.{add-suc, add-zero, mul-assoc, mul-one, zero-div, pow-suc, lt-of-lt-of-le, le-antisymm, div-div-eq-div-mul, pow-succ', add-sub-of-le}
+use native.Mathlib.Nat.{add-suc, add-zero, zero-div, pow-suc, lt-of-lt-of-le, le-antisymm, div-div-eq-div-mul, pow-succ', add-sub-of-le}
 use native.Mathlib.Numerals.{add-one}
 use native.Mathlib.Omega.{arith}
 use mathlib.Core.List.{List}
@@ -11,7 +11,6 @@ use mir.Syntax.{w16}
 use mir.Val.{Fits}
 use lib.ListN.{length, getD, List·getD-eq-default}
 use lib.Pow.{pow-mono}
-use lib.Arith.{digits-mod}
 use Rattle.scope.specs.Bits as bits
 use Rattle.scope.specs.Bits.{bitAt, window, packedFrom}
 
@@ -22,13 +21,6 @@ pub bit-small : (payload : List ℕ) (at : ℕ) → bitAt payload at < 2
 unfolding bits.bitAt
 bit-small payload at = omega arith
 
--- "bits past its end read as zero"
-pub bit-past-end : (payload : List ℕ) (at : ℕ) → length payload * 8 ≤ at → bitAt payload at ≡ 0
-unfolding bits.bitAt
-bit-past-end payload at h =
-    let l : length payload ≤ at / 8 = omega arith in
-    rw (List·getD-eq-default payload 0 l, zero-div)
-
 -- a window of k bits is below 2^k
 pub window-small : (payload : List ℕ) (at k : ℕ) → window payload at k < 2 ^ k
 unfolding bits.window
@@ -38,14 +30,6 @@ window-small payload at (suc k) = rw pow-suc (omega (arith, window-small payload
 -- and so below any power of at least k bits
 pub window-below : (payload : List ℕ) (at k j : ℕ) → k ≤ j → window payload at k < 2 ^ j
 window-below payload at k j h = lt-of-lt-of-le (window-small payload at k) (pow-mono h)
-
--- a window and the one behind it
-pub window-add : (payload : List ℕ) (at j k : ℕ) → window payload at (j + k) ≡ window payload at j * 2 ^ k + window payload (at + j) k
-unfolding bits.window
-window-add payload at j zero = simp (add-zero, mul-one)
-window-add payload at j (suc k) =
-    let e : at + (j + k) ≡ at + j + k = omega arith in
-    rw (add-suc, window-add payload at j k, pow-suc, e, ← mul-assoc) (omega arith)
 
 -- the first j bits of a longer window
 pub window-prefix : (payload : List ℕ) (at j k : ℕ) → window payload at (j + k) / 2 ^ k ≡ window payload at j
@@ -60,20 +44,6 @@ window-prefix payload at j (suc k) =
 pub window-head : (payload : List ℕ) (at j k : ℕ) → j ≤ k → window payload at k / 2 ^ (k - j) ≡ window payload at j
 window-head payload at j k h =
     ap (λ (n : ℕ). window payload at n / 2 ^ (k - j)) (sym (add-sub-of-le h)) ∙ window-prefix payload at j (k - j)
-
--- the last k bits of a longer window
-pub window-tail : (payload : List ℕ) (at j k : ℕ) → window payload at (j + k) % 2 ^ k ≡ window payload (at + j) k
-window-tail payload at j k =
-    ap (λ (n : ℕ). n % 2 ^ k) (window-add payload at j k)
-    ∙ digits-mod (window payload at j) (window-small payload (at + j) k)
-
--- a window past the payload's end is 0
-pub window-past-end : (payload : List ℕ) (at k : ℕ) → length payload * 8 ≤ at → window payload at k ≡ 0
-unfolding bits.window
-window-past-end payload at zero h = refl
-window-past-end payload at (suc k) h =
-    let l : length payload * 8 ≤ at + k = omega arith in
-    rw (window-past-end payload at k h, bit-past-end payload (at + k) l)
 
 -- ---- one bit as the code reads it
 
@@ -149,9 +119,5 @@ packed-at depth payload at (suc n) zero h = ap (λ (p : ℕ). window payload p d
 packed-at depth payload at (suc n) (suc i) h =
     let e : at + depth + i * depth ≡ at + suc i * depth = omega arith in
     packed-at depth payload (at + depth) n i (omega arith) ∙ ap (λ (p : ℕ). window payload p depth) e
-
--- every sample is below 2^depth
-pub packed-below : (depth : ℕ) (payload : List ℕ) (at n i : ℕ) → i < n → getD (packedFrom depth payload at n) i 0 < 2 ^ depth
-packed-below depth payload at n i h = rw (packed-at depth payload at n i h) (window-small payload (at + i * depth) depth)
 
 pub ruleset windows = (bit-inside, bit-outside, read-start, read-step, read-fits, read-end, sample-fits, needs)

@@ -66,7 +66,7 @@ fn sample_at(payload: &[u8], at: usize, depth: usize) -> u16
 }
 
 // Samples of depth bits each, one after the other from a position on: a raw slice deeper than 8, or the rest of one.
-pub fn unpack_from(payload: &[u8], at: usize, depth: usize, out: &mut [u16])
+fn unpack_from(payload: &[u8], at: usize, depth: usize, out: &mut [u16])
     requires { ⌜ (depth ≤ 16) × (at ≤ 4294967296) × (length (now out) ≤ 268435456) ⌝ }
     ensures { λ _. ⌜ now (out .exit) ≡ packedFrom depth (now (payload .entry)) at (length (now (out .entry))) ⌝ }
 {

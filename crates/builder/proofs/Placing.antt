@@ -16,13 +16,13 @@ use lib.Seq.{getD-set-same, getD-set-other}
 use Rattle.scope.specs.Base.{one, count}
 use Rattle.scope.specs.Words.{longest, lengthOf, wordOf, first, heads}
 use Rattle.scope.specs.Lookup.{packed, wordIn}
-use Rattle.codes.proofs.Counts.{at-most-longest}
+use Rattle.codes.proofs.Longest.{at-most-longest}
 use Rattle.lists.proofs.Counts.{count-next, one-same, one-other}
 use Rattle.lists.proofs.Powers.{shl-one}
 use Rattle.codes.proofs.Table.{slot-hit, slot-miss}
 use Rattle.words.specs.Weigh.{firstsOf}
 use Rattle.words.proofs.Walking.{firsts-at, firsts-length}
-use Rattle.builder.specs.Slots.{slotBits, slotBase, StretchWritten, WordSlots, Ready, Slotted, WordsPlaced}
+use Rattle.builder.specs.Slots.{slotBits, slotBase, StretchWritten, WordSlots, Buildable, Slotted, WordsPlaced}
 use Rattle.builder.proofs.Filling.{bits-first, base-first, bits-second, base-second}
 use Rattle.builder.proofs.Rows.{row-of, of-row, first-room, second-room, short-row, row, apart}
 
@@ -99,7 +99,7 @@ of-part ls k n ws s p i a = ap (λ (x : ℕ). getD ws x 0) (sym (zero-add i)) �
 -- ---- one symbol after the other
 
 -- before the first symbol every slot is 0
-pub placed-start : (ls : List ℕ) (m : ℕ) (old ws next : List ℕ) → Ready ls m (length old) → next ≡ firstsOf ls → length ws ≡ length old
+pub placed-start : (ls : List ℕ) (m : ℕ) (old ws next : List ℕ) → Buildable ls m (length old) → next ≡ firstsOf ls → length ws ≡ length old
     → StretchWritten old 0 (length old) 0 ws → WordsPlaced ls m ws next 0
 unfolding packed wordIn count
 placed-start ls m old ws next ok e l f = record {

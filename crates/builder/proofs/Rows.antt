@@ -10,12 +10,12 @@ use lib.Pow.{pow-pos, pow-add}
 use lib.ListN.{length}
 use Rattle.scope.specs.Words.{longest, lengthOf, wordOf, first, heads}
 use Rattle.codes.specs.Tiers.{end}
-use Rattle.codes.proofs.Counts.{at-most-longest}
+use Rattle.codes.proofs.Longest.{at-most-longest}
 use Rattle.codes.proofs.Words.{first-le-word, word-lt-end, before-shorter}
 use Rattle.codes.proofs.Kraft.{word-fits}
 use Rattle.codes.proofs.Heads.{heads-first, need-small}
 use Rattle.codes.proofs.Table.{need-short, need-long}
-use Rattle.builder.specs.Slots.{slotBits, WordSlots, Ready}
+use Rattle.builder.specs.Slots.{slotBits, WordSlots, Buildable}
 use Rattle.builder.proofs.Filling.{bits-first, base-first, bits-second, base-second}
 
 -- ---- a row of slots
@@ -55,7 +55,7 @@ early ls l v h = omega arith
 
 -- ---- of a code that passes
 
-module _ (ls : List ℕ) (m n : ℕ) (ok : Ready ls m n) where
+module _ (ls : List ℕ) (m n : ℕ) (ok : Buildable ls m n) where
   -- the first part lies within the need
   pub first-room : 2 ^ min (longest ls) 12 ≤ n
   first-room = elim (decLe (longest ls) 12) [

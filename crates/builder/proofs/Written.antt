@@ -15,9 +15,9 @@ use Rattle.codes.proofs.Heads.{none-at-longest, first-head, no-head, no-head-sh
 use Rattle.codes.proofs.Table.{need-short, need-long, table-length, table-short, table-first, table-second}
 use Rattle.words.specs.Weigh.{firstsOf}
 use Rattle.words.proofs.Walking.{firsts-twelve}
-use Rattle.builder.specs.Slots.{StretchWritten, Ready, Slotted}
+use Rattle.builder.specs.Slots.{StretchWritten, Buildable, Slotted}
 
-module _ (ls : List ℕ) (m n : ℕ) (ok : Ready ls m n) where
+module _ (ls : List ℕ) (m n : ℕ) (ok : Buildable ls m n) where
   -- the marks lie within the table
   heads-room : first ls 12 ≤ n
   heads-room = elim (decLe (longest ls) 12) [
@@ -73,7 +73,7 @@ module _ (ls : List ℕ) (m n : ℕ) (ok : Ready ls m n) where
 
 -- ---- `write_table`: firsts are the first words, and ws has been lent to `place`, which left ws₁, to be marked
 
-module _ (ls : List ℕ) (m : ℕ) (ws firsts ws₁ : List ℕ) (ok : Ready ls m (length ws)) (ef : firsts ≡ firstsOf ls) (same : length ws₁ ≡ length ws) where
+module _ (ls : List ℕ) (m : ℕ) (ws firsts ws₁ : List ℕ) (ok : Buildable ls m (length ws)) (ef : firsts ≡ firstsOf ls) (same : length ws₁ ≡ length ws) where
   -- there is room for the marks
   pub marks-room : 0 + getD firsts 12 0 ≤ length ws₁
   marks-room = omega (arith, firsts-twelve ls firsts ef, heads-room ls m (length ws) ok, same)

@@ -33,7 +33,7 @@ pub record WordSlots (m l s w n : ℕ) : Type 0 where
   pub room : n ≤ 266240
 
 -- the lengths pass refusals 4, 9 and 10, m is the longest, and n words are the need
-pub record Ready (ls : List ℕ) (m n : ℕ) : Type 0 where
+pub record Buildable (ls : List ℕ) (m n : ℕ) : Type 0 where
   pub few : length ls ≤ 16384
   pub small : longest ls ≤ 18
   pub full : shares ls ≤ 262144
@@ -47,7 +47,7 @@ pub record Slotted (ls ws : List ℕ) (s : ℕ) : Type 0 where
 
 -- the words of the symbols below s stand in their slots, and next holds the word that the next symbol of each length gets
 pub record WordsPlaced (ls : List ℕ) (m : ℕ) (ws next : List ℕ) (s : ℕ) : Type 0 where
-  pub ready : Ready ls m (length ws)
+  pub ready : Buildable ls m (length ws)
   pub within : s ≤ length ls
   pub many : length next ≡ 19
   pub words : (l : ℕ) → 0 < l → l ≤ 18 → getD next l 0 ≡ first ls l + count l (take s ls)

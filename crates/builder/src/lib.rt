@@ -9,7 +9,7 @@ ghost use Rattle.scope.specs.Base.{replaced};
 ghost use Rattle.scope.specs.Words.{longest, shares, need};
 ghost use Rattle.scope.specs.Lookup.{tableOf};
 ghost use Rattle.words.specs.Weigh.{firstsOf};
-ghost use Rattle.builder.specs.Slots.{slotBits, slotBase, StretchWritten, WordSlots, Ready, Slotted, WordsPlaced};
+ghost use Rattle.builder.specs.Slots.{slotBits, slotBase, StretchWritten, WordSlots, Buildable, Slotted, WordsPlaced};
 
 // Writes e into n words of ws, from `from` on.
 pub(crate) fn fill(ws: &mut [u32], from: usize, n: usize, e: u32)
@@ -86,7 +86,7 @@ pub(crate) fn place_symbol(
 
 // Writes every symbol's word, in one pass over the lengths, m being the longest. `first` holds the first word of each length.
 pub(crate) fn place(lengths: &[u8], first: [u32; 19], m: usize, ws: &mut [u32])
-    requires { ⌜ Ready (now lengths) m (length (now ws)) × (first ≡ firstsOf (now lengths)) ⌝ }
+    requires { ⌜ Buildable (now lengths) m (length (now ws)) × (first ≡ firstsOf (now lengths)) ⌝ }
     ensures { λ _. ⌜ Slotted (now (lengths .entry)) (now (ws .exit)) (length (now (lengths .entry))) ⌝ }
 {
     let all = ws.len();
@@ -102,7 +102,7 @@ pub(crate) fn place(lengths: &[u8], first: [u32; 19], m: usize, ws: &mut [u32])
 // The table, in exactly the words that it needs. The first slots, one for each different first twelve bits of a longer word, lead to
 // the second part: they are as many as the first word of 12 bits says, and none where no word is longer.
 pub(crate) fn write_table(lengths: &[u8], m: usize, ws: &mut [u32])
-    requires { ⌜ Ready (now lengths) m (length (now ws)) ⌝ }
+    requires { ⌜ Buildable (now lengths) m (length (now ws)) ⌝ }
     ensures { λ _. ⌜ now (ws .exit) ≡ tableOf (now (lengths .entry)) ⌝ }
 {
     let first = firsts(lengths);

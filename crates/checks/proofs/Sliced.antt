@@ -1,6 +1,6 @@
 -- Document 01, "Refusal numbers", 12 to 14 of a slice before any is read: each as src/lib.rt finds it, and what is known of a slice
 -- that has none. Assumes nothing.
-use mathlib.Core.Path.{_≡_, ap}
+use mathlib.Core.Path.{_≡_}
 use mathlib.Core.Bool.{Bool, true, false, not, _&&_}
 use mathlib.Core.List.{List}
 use Prim.Native.Nat.{ℕ, _+_, _-_, _*_, _/_, _≤_, _<_}
@@ -8,13 +8,12 @@ use native.Mathlib.Nat.{mul-le-mul}
 use native.Mathlib.Omega.{arith}
 use mir.Syntax.{w64}
 use mir.Val.{Fits}
-use borrow.Author.Tests.{eq-eqb, ne-eqb, eqb-false, lt-ltb, le-ltb, ltb-false}
+use borrow.Author.Tests.{eq-eqb, ne-eqb, lt-ltb, le-ltb, ltb-false}
 use borrow.Author.Needs.{needs}
 use lib.Dec.{eqb, ltb}
 use lib.ListN.{length}
 use Rattle.scope.specs.Base.{overUp}
-use Rattle.scope.specs.Refusals.{refuseIf, _andThen_, inOrder}
-use Rattle.scope.specs.Geometry.{sliceCount}
+use Rattle.scope.specs.Refusals.{refuseIf, _andThen_}
 use Rattle.scope.specs.Layout.{planeIndex, sliceStart, sliceEnd, isRaw, samplesIn}
 use Rattle.scope.specs.Words.{longest}
 use Rattle.scope.specs.Frame as frm
@@ -23,7 +22,7 @@ use Rattle.scope.specs.declared.Geometry.{Geometry}
 use Rattle.scope.specs.declared.Place.the-variants.{Slice, Plane}
 use Rattle.scope.specs.declared.Answer.{Answer}
 use Rattle.scope.specs.declared.Answer.the-variants.{Done, Refused}
-use Rattle.refusals.proofs.InOrder.{first-passed, then-passed, if-passed, each-passed}
+use Rattle.refusals.proofs.InOrder.{first-passed, then-passed, if-passed}
 use Rattle.checks.specs.Slices as slc
 use Rattle.checks.specs.Slices.{sizeCheck, sliceRule}
 
@@ -140,20 +139,3 @@ module _ (frame : List ℕ) (g : Geometry) (lengths : List ℕ) (s : ℕ) (h : D
   raw-bits e =
       let k : overUp (samplesIn frame g s * g .depth) 8 ≤ sliceEnd frame g s - (sliceStart frame g s + 2) = rw e at bytes-in in
       omega arith
-
-  -- at depth 8, a byte for each sample
-  pub raw-bytes : isRaw frame g s ≡ true → g .depth ≡ 8 → samplesIn frame g s ≤ sliceEnd frame g s - (sliceStart frame g s + 2)
-  raw-bytes e d =
-      let k : samplesIn frame g s * g .depth ≡ samplesIn frame g s * 8 = ap (λ (y : ℕ). samplesIn frame g s * y) d in
-      omega (arith, raw-bits e)
-
-  -- if it is coded, its plane has words
-  pub coded-words : isRaw frame g s ≡ false → longest (sliceLengths frame g lengths s) ≡ 0 → ⊥
-  unfolding wordless
-  coded-words e =
-      let k : wordless ≡ false = if-passed wordless 14 (Plane (planeIndex frame g s)) (first-passed (refuseIf wordless 14 (Plane (planeIndex frame g s))) size past-prefix) in
-      eqb-false _ 0 (rw e at k)
-
--- each slice passed where all did
-pub slice-passed : (frame : List ℕ) (g : Geometry) (lengths : List ℕ) (s t : ℕ) → s < t → t ≡ sliceCount g → Done ≡ inOrder (sliceCount g) (sliceCheck frame g lengths) → Done ≡ sliceCheck frame g lengths s
-slice-passed frame g lengths s t l e h = each-passed (sliceCheck frame g lengths) (sliceCount g) s h (rw e at l)

@@ -11,7 +11,7 @@ use lib.ListN.{length}
 use Rattle.scope.specs.Base.{count}
 use Rattle.scope.specs.Words.{longest, shares, startDown, first}
 use Rattle.codes.specs.Tiers.{end, running, summed}
-use Rattle.codes.proofs.Counts.{longest-count}
+use Rattle.codes.proofs.Longest.{longest-count}
 use Rattle.lists.proofs.Counts.{count-le}
 use Rattle.codes.proofs.Kraft.{tiers-fit}
 

@@ -2,7 +2,7 @@
 -- gives; where the reading is stuck there is none. p is a bit position. Assumes nothing.
 use mathlib.Core.Path.{fun-ext, _≡_, refl, sym, ap, _∙_, subst}
 use mathlib.Core.Logic.{_↔_}
-use Prim.Native.Nat.{ℕ, zero, suc, _+_, _-_}
+use Prim.Native.Nat.{ℕ, zero, suc, _+_}
 use native.Mathlib.Omega.{arith}
 use mathlib.Core.List.{List, [], _∷_}
 use lib.ListN.{length}
@@ -85,7 +85,3 @@ module _ (ls payload : List ℕ) where
   one-chain p ss ts e a b =
       let f : symbols ss ≡ symbols ts = sym (spells-chain p ss a) ∙ ap (chain ls payload p) e ∙ spells-chain p ts b in
       cc
-
-  -- where the reading is stuck there is none
-  pub stuck-none : (n p q : ℕ) → chain ls payload p n ≡ stuckAt q → (ss : List ℕ) → length ss ≡ n → Spells ls payload p ss → ⊥
-  stuck-none n p q e ss l t = no-symbols q ss (sym e ∙ ap (chain ls payload p) (sym l) ∙ spells-chain p ss t)

@@ -1,24 +1,23 @@
 -- The first twelve bits of the words longer than 12 are the numbers 0 to first(12) − 1, and so S = first(12): where the
 -- sub-tables stand, and how many there are (document 01, "Words and lookup", a plane's need). Assumes nothing.
 use mathlib.Core.Path.{_≡_, refl, sym, ap, _∙_, subst}
-use mathlib.Core.Logic.{_⊎_, inl, inr}
+use mathlib.Core.Logic.{inl, inr}
 use Prim.Native.Nat.{ℕ, zero, suc, _+_, _-_, _*_, _/_, _^_, _≤_, _<_, min}
 use native.Mathlib.Nat.{add-suc, suc-add, pow-suc, div-div-eq-div-mul, not-suc-le-zero, le-refl, le-trans, mul-div-cancel, not-le-of-lt, mul-le-mul}
 use native.Mathlib.Numerals.{add-one}
 use native.Mathlib.Omega.{arith}
 use native.Mathlib.Decide.{decLe}
 use mathlib.Core.List.{List}
-use mathlib.Core.Bool.{Bool, true, false, cond, _||_, true≢false}
+use mathlib.Core.Bool.{true, false, cond, true≢false}
 use lib.ListN.{length}
 use lib.Dec.{eqb, ltb, leb}
-use lib.Pow.{pow-mono, pow-pos}
+use lib.Pow.{pow-mono}
 use borrow.Author.Tests.{eq-eqb, lt-ltb, le-ltb, le-leb, ltb-true, eqb-true, leb-true}
 use Rattle.scope.specs.Base.{halfUp, one, count, sumBelow}
 use Rattle.scope.specs.Words.{longest, startDown, first, wordOf, lengthOf, shares, isHead, headBelow, heads, need, needFrom}
 use Rattle.lists.proofs.Sums.{sum-steps, sum-le}
 use Rattle.codes.specs.Tiers.{end}
-use Rattle.codes.proofs.Counts.{at-most-longest}
-use Rattle.lists.proofs.Counts.{one-le}
+use Rattle.codes.proofs.Longest.{at-most-longest}
 use Rattle.lists.proofs.Tests.{which, and-both, or-right, or-cases}
 use Rattle.codes.proofs.Words.{Has, has, before-shorter, word-lt-end}
 use Rattle.codes.proofs.Kraft.{end-fits}
@@ -186,18 +185,7 @@ need-first ls k f s h = go (decLe (longest ls) 12)
 pub second-small : (m s : ℕ) → m ≤ 18 → s ≤ 4096 → s * 2 ^ (m - 12) ≤ 262144
 second-small m s k f = mul-le-mul f (pow-mono {i = m - 12} {j = 6} (omega arith))
 
--- no need is 0
-pub need-some : (ls : List ℕ) → 0 < need ls
-unfolding need needFrom
-need-some ls = elim (which (eqb (longest ls) 0)) [
-  | inl e ↦ simp e (omega arith)
-  | inr e ↦ elim (which (leb (longest ls) 12)) [
-    | inl f ↦ simp (e, f) (pow-pos (longest ls))
-    | inr f ↦ simp (e, f) (omega arith)
-  ]
-]
-
--- nor above 4,096 + 2^18
+-- no need is above 4,096 + 2^18
 pub need-small : (ls : List ℕ) → longest ls ≤ 18 → need ls ≤ 266240
 unfolding need needFrom heads
 need-small ls k = elim (which (eqb (longest ls) 0)) [

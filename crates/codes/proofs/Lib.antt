@@ -1,4 +1,4 @@
-pub mod Counts
+pub mod Longest
 pub mod Shortness
 pub mod Words
 pub mod Kraft

@@ -1,22 +1,15 @@
--- Laws of counting in a list, and of the longest length (document 01, "Words and lookup"). Assumes nothing.
-use mathlib.Core.Path.{_≡_, refl, ap, subst}
-use mathlib.Core.Logic.{_≢_, _⊎_, inl, inr}
-use Prim.Native.Nat.{ℕ, zero, suc, _+_, _-_, _≤_, _<_, max, suc-le-suc}
+-- Laws of the longest length (document 01, "Words and lookup"). Assumes nothing.
+use mathlib.Core.Path.{_≡_}
+use Prim.Native.Nat.{ℕ, zero, suc, _+_, _≤_, _<_, max, suc-le-suc}
 use native.Mathlib.Nat.{not-suc-le-zero, le-of-suc-le-suc, zero-lt-suc}
 use native.Mathlib.Decide.{decLt}
 use native.Mathlib.Omega.{arith}
 use mathlib.Core.List.{List, [], _∷_}
-use mathlib.Core.Bool.{Bool, true, false}
 use lib.Dec.{eqb}
 use lib.ListN.{length, take, getD}
-use borrow.Author.Tests.{eq-eqb, ne-eqb, eqb-true}
 use Rattle.scope.specs.Base.{one, count}
 use Rattle.scope.specs.Words.{longest, lengthOf}
 use Rattle.lists.proofs.Counts.{one-same}
-
--- ---- an element with a given count before it
-
--- ---- the longest length
 
 -- no length is above the longest
 pub at-most-longest : (ls : List ℕ) (s : ℕ) → getD ls s 0 ≤ longest ls

@@ -20,7 +20,7 @@ use Rattle.scope.specs.Words.{longest, first, wordOf, lengthOf, shares, headBel
 use Rattle.scope.specs.Lookup.{packed, unpacked, beginsIn, wordIn, firstPart, tableOf, lookupIn}
 use Rattle.scope.specs.declared.Found.{Found}
 use Rattle.scope.specs.declared.Found.the-variants.{Word, NoWord}
-use Rattle.codes.proofs.Counts.{at-most-longest}
+use Rattle.codes.proofs.Longest.{at-most-longest}
 use Rattle.lists.proofs.Tests.{which}
 use Rattle.bits.proofs.Windows.{window-small, window-head}
 use Rattle.codes.proofs.Words.{begins-of-test, FoundIn, found-in}
@@ -179,8 +179,3 @@ module _ (ls payload : List ℕ) (p : ℕ) (fits : longest ls ≤ 18) (full : sh
       → lookupIn (part workspace from n) (longest ls) payload p ≡ wordAt ls payload p
   looks-part workspace from n h e =
       looks-take (part workspace from n) (take-take (need ls) n (drop from workspace) h ∙ e)
-
-  -- over all that stands from `from` on
-  pub looks-from : (workspace : List ℕ) (from : ℕ) → part workspace from (need ls) ≡ tableOf ls
-      → lookupIn (drop from workspace) (longest ls) payload p ≡ wordAt ls payload p
-  looks-from workspace from e = looks-take (drop from workspace) e

@@ -15,7 +15,7 @@ use Rattle.scope.specs.Base.{listFrom, listBelow}
 use Rattle.scope.specs.Words.{longest, lengthOf, wordOf, heads, need, needFrom}
 use Rattle.scope.specs.Lookup.{packed, beginsIn, wordIn, firstPart, slots, tableOf}
 use Rattle.scope.specs.declared.Found.the-variants.{Word, NoWord}
-use Rattle.codes.proofs.Counts.{at-most-longest}
+use Rattle.codes.proofs.Longest.{at-most-longest}
 use Rattle.lists.proofs.Made.{length-listFrom, getD-below}
 use Rattle.codes.proofs.Heads.{no-head-short}
 

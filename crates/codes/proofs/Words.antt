@@ -9,16 +9,16 @@ use native.Mathlib.Numerals.{add-one}
 use native.Mathlib.Decide.{decLe}
 use native.Mathlib.Omega.{arith}
 use mathlib.Core.List.{List}
-use mathlib.Core.Bool.{true, false, true≢false}
+use mathlib.Core.Bool.{true, true≢false}
 use lib.Dec.{eqb, ltb}
 use lib.ListN.{length, take}
 use borrow.Author.Tests.{eq-eqb, lt-ltb, ltb-true, eqb-true}
 use Rattle.scope.specs.Base.{count}
 use Rattle.scope.specs.Bits.{window}
 use Rattle.scope.specs.Words.{longest, startDown, first, wordOf, lengthOf, beginsWith, wordBelow, wordAt, Begins}
-use Rattle.scope.specs.declared.Found.the-variants.{Word, NoWord}
+use Rattle.scope.specs.declared.Found.the-variants.{Word}
 use Rattle.codes.specs.Tiers.{end}
-use Rattle.codes.proofs.Counts.{at-most-longest}
+use Rattle.codes.proofs.Longest.{at-most-longest}
 use Rattle.lists.proofs.Counts.{count-at, count-apart, at-rank, Ranked}
 use Rattle.lists.proofs.Tests.{which, and-both}
 use Rattle.bits.proofs.Windows.{window-prefix}
@@ -159,24 +159,10 @@ below-found ls payload p (suc n) k s h b = elim (which (beginsWith ls payload p 
       rw e (below-found ls payload p n (omega arith) s l b))
 ]
 
-below-none : (ls payload : List ℕ) (p n : ℕ) → n ≤ length ls → ((s : ℕ) → Begins ls payload p s → ⊥)
-    → wordBelow ls payload p n ≡ NoWord
-unfolding wordBelow
-below-none ls payload p zero k no-one = refl
-below-none ls payload p (suc n) k no-one = elim (which (beginsWith ls payload p n)) [
-  | inl e ↦ absurd (no-one n (begins-of-test ls payload p n k e))
-  | inr e ↦ rw e (below-none ls payload p n (omega arith) no-one)
-]
-
--- `wordAt` is the word that the bits begin with, and no word where they begin with none
+-- `wordAt` is the word that the bits begin with
 pub word-found : (ls payload : List ℕ) (p s : ℕ) → Begins ls payload p s → wordAt ls payload p ≡ Word (lengthOf ls s) s
 unfolding wordAt
 word-found ls payload p s b = below-found ls payload p (length ls) (le-refl (length ls)) s (b .inside) b
-
--- where the bits begin with no word
-pub word-none : (ls payload : List ℕ) (p : ℕ) → ((s : ℕ) → Begins ls payload p s → ⊥) → wordAt ls payload p ≡ NoWord
-unfolding wordAt
-word-none ls payload p h = below-none ls payload p (length ls) (le-refl (length ls)) h
 
 below-begins : (ls payload : List ℕ) (p n : ℕ) → n ≤ length ls → (l s : ℕ) → wordBelow ls payload p n ≡ Word l s
     → Begins ls payload p s × (l ≡ lengthOf ls s)

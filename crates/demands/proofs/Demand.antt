@@ -1,6 +1,6 @@
 -- Demands 1 and 2 of the entries themselves: of every call that the contracts of decode8 and decode16 allow. `Post` is the plain reading
 -- that Rattle itself makes of the `ensures` clauses of src/, so nothing here goes by another copy of the contract.
-use mathlib.Core.Path.{_≡_, ap, _∙_}
+use mathlib.Core.Path.{ap, _∙_}
 use mathlib.Core.Bool.{Bool, true, false}
 use contract.Lifetimes.{Lfts}
 use borrow.Fn.World.{ArgsD, ResD}

@@ -1,7 +1,7 @@
 -- What the functions on a geometry's numbers return, and that nothing runs over: the steps of src/lib.rt over plain numbers
 -- (document 01, "Layout"). Assumes nothing.
 use mathlib.Core.Path.{_≡_, refl}
-use mathlib.Core.Bool.{Bool, true, false, cond}
+use mathlib.Core.Bool.{Bool, true, false}
 use Prim.Native.Nat.{ℕ, zero, suc, _+_, _-_, _*_, _%_, _^_, _≤_, _<_, min}
 use native.Mathlib.Nat.{mul-le-mul}
 use native.Mathlib.Numerals.{add-one}
@@ -181,13 +181,6 @@ module _ (g : Geometry) (p row at w : ℕ) (ok : Sound g) (lh : row ≤ planeHei
   -- which is at most 1,073,741,824
   pub row-most : at ≤ 805306368 → at + row * w ≤ 1073741824
   row-most l = omega (arith, samples-most row w row-cap lw)
-
--- that many rows past the plane's start
-pub row-is : (g : Geometry) (p row at w : ℕ) → at ≡ planeStart g p → w ≡ planeWidth g p → at + row * w ≡ rowStart g p row
-unfolding geo.rowStart
-row-is g p row at w e f = rw (e, f)
-
-pub ruleset rows = (row-fits, row-adds, row-most, row-is, needs)
 
 -- ---- slices
 

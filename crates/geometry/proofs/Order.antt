@@ -1,10 +1,8 @@
 -- Stretches that lie one after another in a buffer, in an order of their own (document 01, "Planes lie one after another with no
 -- gaps"): each lies within the buffer, and two of them do not meet. No geometry here. Assumes nothing.
 use mathlib.Core.Path.{_≡_}
-use Prim.Native.Nat.{ℕ, zero, suc, _+_, _-_, _≤_, _<_}
-use native.Mathlib.Nat.{add-zero, add-suc}
+use Prim.Native.Nat.{ℕ, _+_, _≤_, _<_}
 use native.Mathlib.Omega.{arith}
-use Rattle.scope.specs.Base as base
 use Rattle.scope.specs.Base.{sumBelow}
 use Rattle.lists.proofs.Sums.{sum-next}
 

@@ -1,11 +1,10 @@
 -- Document 01, "Layout": the sides of a plane, its places, which are cut at its height and K of which cover it, and the planes in
 -- the buffer. Over a geometry that refusals 1 to 3 left. Assumes nothing.
-use mathlib.Core.Path.{_≡_, refl, sym, ap, _∙_}
+use mathlib.Core.Path.{_≡_, refl, sym, ap}
 use mathlib.Core.Bool.{Bool, true, false, cond}
 use Prim.Native.Nat.{ℕ, zero, suc, _+_, _-_, _*_, _/_, _%_, _≤_, _<_, min}
-use native.Mathlib.Nat.{zero-mul, suc-mul, add-mul, mul-comm, mul-left-comm, mul-zero, div-add-mod, le-div-iff-mul-le, lt-div-mul-add, div-lt-iff-lt-mul, lt-of-mul-lt-mul-left, le-of-mul-le-mul-left, mul-le-mul-right, mul-le-mul, mul-le-mul-left, div-le-self}
+use native.Mathlib.Nat.{zero-mul, suc-mul, add-mul, mul-comm, div-lt-iff-lt-mul, mul-le-mul-right, mul-le-mul, mul-le-mul-left}
 use native.Mathlib.Omega.{arith}
-use Rattle.scope.specs.Base.{overUp}
 use Rattle.scope.specs.Geometry as geo
 use Rattle.scope.specs.Geometry.{planesOf, subsampled, correlated, planeCount, slicesPerPlane, sliceCount, small, planeWidth, planeHeight, planeSliceHeight, firstRow, rowsAt, planeSamples, allSamples, swapped, orderOf, planeStart, rowStart}
 use Rattle.scope.specs.declared.Family.{Family}
@@ -93,18 +92,9 @@ module _ (g : Geometry) (ok : Sound g) where
       go zero e = omega (arith, enough (g .height) (g .«slice_height») (ok .sliced .0), ap (λ (y : ℕ). y * g .«slice_height») e, zero-mul (g .«slice_height»), ok .tall .0)
       go (suc k) e = omega arith
 
-  -- T is 1 to 65,536
+  -- T is at most 65,536
   pub slice-count-most : sliceCount g ≤ 65536
   slice-count-most = mul-le-mul (planes-most (g .family)) slices-most
-
-  -- T is at least 1
-  pub slice-count-some : 1 ≤ sliceCount g
-  slice-count-some = mul-le-mul (planes-some (g .family)) slices-some
-
-  -- a place has at least a row
-  pub rows-some : (p k : ℕ) → k < slicesPerPlane g → 1 ≤ rowsAt g p k
-  unfolding geo.rowsAt
-  rows-some p k l = omega (arith, place-in p k l, slice-height-fits g ok p .0)
 
   -- the first K places are the plane
   pub filled-all : (p : ℕ) → filled g p (slicesPerPlane g) ≡ planeSamples g p
@@ -180,12 +170,7 @@ correlated-three Rgba e = omega arith
 correlated-three Yuva e = let z : _≡_ {A = ℕ} 0 1 = cc in omega arith
 
 module _ (g : Geometry) where
-  -- so its planes are all of one width and one size
-  pub widths-alike : correlated (g .family) ≡ true → (p q : ℕ) → planeWidth g p ≡ planeWidth g q
-  unfolding geo.planeWidth geo.small
-  widths-alike e p q = rw (correlated-full (g .family) e)
-
-  -- and one size
+  -- so its planes are all of one size
   pub sizes-alike : correlated (g .family) ≡ true → (p q : ℕ) → planeSamples g p ≡ planeSamples g q
   unfolding geo.planeSamples geo.planeWidth geo.planeHeight geo.small
   sizes-alike e p q = rw (correlated-full (g .family) e)

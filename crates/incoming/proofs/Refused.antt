@@ -6,7 +6,7 @@ use Prim.Native.Nat.{ℕ, _*_, _%_, _^_, _≤_, _<_}
 use native.Mathlib.Omega.{arith}
 use mir.Syntax.{w64}
 use mir.Val.{Fits}
-use borrow.Author.Tests.{eq-eqb, ne-eqb, eqb-true, leb-true, le-leb, lt-leb, not-true, not-false}
+use borrow.Author.Tests.{eq-eqb, ne-eqb, eqb-true, leb-true, le-leb, lt-leb, not-false}
 use borrow.Author.Needs.{needs}
 use lib.Dec.{eqb, leb}
 use Rattle.scope.specs.Refusals.{refuseIf, _andThen_}
@@ -117,10 +117,6 @@ depth-deep depth e = elim (or-cases (eqb depth 10 || eqb depth 12) (eqb depth 14
 
     d : depth ≡ 14 → (10 ≤ depth) × (depth ≤ 14)
     d z = omega arith
-
--- not 8 in particular
-pub depth-not-8 : (depth : ℕ) → depthFits true depth ≡ true → depth ≡ 8 → ⊥
-depth-not-8 depth e h = omega (arith, depth-deep depth e)
 
 -- and the one for depth 8 takes 8 alone
 pub depth-shallow : (depth : ℕ) → depthFits false depth ≡ true → depth ≡ 8

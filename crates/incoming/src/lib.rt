@@ -55,7 +55,7 @@ fn depth_fits(deep: bool, depth: usize) -> bool
 }
 
 // The rules of a geometry.
-pub fn geometry_fits(deep: bool, g: Geometry) -> bool
+fn geometry_fits(deep: bool, g: Geometry) -> bool
     ensures { λ r. ⌜ r ≡ geometryFits deep g ⌝ }
 {
     let f = g.family;
@@ -85,7 +85,7 @@ fn divides(s: usize, x: usize) -> bool
 }
 
 // Refusals 1 to 3.
-pub fn check_shape(deep: bool, g: Geometry) -> Answer
+fn check_shape(deep: bool, g: Geometry) -> Answer
     ensures { λ r. ⌜ r ≡ shapeChecks deep g ⌝ }
 {
     if !geometry_fits(deep, g) {

@@ -5,8 +5,6 @@ use mathlib.Core.Path.{sym, _∙_}
 use contract.Lifetimes.{Lfts}
 use Rattle.lists.specs.Settled.{Settles}
 use borrow.Fn.World.{ArgsD}
-use Rattle.layout.proofs.byte_at as byte-at
-use Rattle.layout.proofs.byte_at.Reads as byte-at-reads
 use Rattle.layout.proofs.le32_at as le32-at
 use Rattle.layout.proofs.le32_at.Reads as le32-at-reads
 use Rattle.layout.proofs.preamble_end as preamble-end
@@ -17,9 +15,6 @@ use Rattle.layout.proofs.plane_index as plane-index
 use Rattle.layout.proofs.plane_index.Reads as plane-index-reads
 use Rattle.layout.proofs.slice_at as slice-at
 use Rattle.layout.proofs.slice_at.Reads as slice-at-reads
-
-pub byte-at-once : (κs : Lfts 1) (a : ArgsD byte-at.signature κs) → Settles (byte-at-reads.Post κs a)
-byte-at-once κs a r₁ r₂ s₁ s₂ p q = p ∙ sym q
 
 pub le32-at-once : (κs : Lfts 1) (a : ArgsD le32-at.signature κs) → Settles (le32-at-reads.Post κs a)
 le32-at-once κs a r₁ r₂ s₁ s₂ p q = p .0 ∙ sym (q .0)

@@ -1,12 +1,12 @@
 -- Document 01, "Layout": what the readers of src/lib.rt read. Assumes nothing.
-use mathlib.Core.Path.{_≡_, sym, _∙_}
+use mathlib.Core.Path.{_≡_}
 use mathlib.Core.Bool.{Bool}
 use mathlib.Core.List.{List}
 use Prim.Native.Nat.{ℕ, _+_, _*_, _%_, _≤_, _<_}
 use native.Mathlib.Omega.{arith}
 use borrow.Author.Tests.{lt-ltb, le-ltb}
 use lib.Dec.{eqb}
-use lib.ListN.{length, getD, List·getD-eq-default}
+use lib.ListN.{length, getD}
 use Rattle.scope.specs.Geometry.{sliceCount, planeWidth, planeSliceHeight, rowsAt}
 use Rattle.scope.specs.Layout as lay
 use Rattle.scope.specs.Layout.{le32, preambleEnd, countByte, planeIndex, placeInPlane, sliceStart, sliceEnd, sliceAt}
@@ -53,10 +53,6 @@ count-is frame g t r e h = rw e at h
 pub index-is : (frame : List ℕ) (g : Geometry) (t s r : ℕ) → t ≡ sliceCount g → r ≡ getD frame (32 + 4 * (t + 1) + 1 + s) 0 → r ≡ planeIndex frame g s
 unfolding lay.planeIndex
 index-is frame g t s r e h = rw e at h
-
--- a byte as a wide number
-pub wide-is : (frame : List ℕ) (at b r : ℕ) → b ≡ getD frame at 0 → r ≡ b → r ≡ getD frame at 0
-wide-is frame at b r e k = k ∙ e
 
 -- ---- a slice as one record
 

@@ -18,7 +18,7 @@ ghost use Rattle.layout.specs.Placed.{Placed};
 // ---- bytes
 
 // The byte at an offset; 0 past the end.
-pub fn byte_at(frame: &[u8], at: usize) -> u8
+fn byte_at(frame: &[u8], at: usize) -> u8
     ensures { λ r. ⌜ r ≡ getD (now (frame .entry)) at 0 ⌝ }
 {
     if at < frame.len() {

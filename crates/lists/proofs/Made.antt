@@ -1,9 +1,9 @@
 -- Lists that are made element by element, f 0, f 1, .. , or of one element, and what stands past a list's end. Assumes nothing.
-use mathlib.Core.Path.{_≡_, refl, sym, ap, ap₂, _∙_}
-use Prim.Native.Nat.{ℕ, zero, suc, _+_, _-_, _≤_, _<_}
+use mathlib.Core.Path.{_≡_, refl, sym, ap, _∙_}
+use Prim.Native.Nat.{ℕ, zero, suc, _+_, _≤_, _<_}
 use native.Mathlib.Nat.{add-suc, suc-add, add-zero, zero-add, not-suc-le-zero, le-of-suc-le-suc}
 use native.Mathlib.Omega.{arith}
-use mathlib.Core.List.{List, _∷_}
+use mathlib.Core.List.{List}
 use lib.ListN.{length, getD, replicate, List·getD-eq-default}
 use lib.Seq.{ext-getD}
 use Rattle.scope.specs.Base.{listFrom, listBelow}
@@ -30,12 +30,6 @@ pub listBelow-only : (f : ℕ → ℕ) (n : ℕ) (xs : List ℕ) → length xs �
 listBelow-only f n xs l h =
     ext-getD 0 xs (listBelow n f) (l ∙ sym (length-listFrom f 0 n))
     (λ k b. let c : k < n = omega (arith, l) in h k c ∙ sym (getD-below f n k c))
-
--- two functions that agree make the same list
-pub listFrom-same : (f g : ℕ → ℕ) → ((i : ℕ) → f i ≡ g i) → (i n : ℕ) → listFrom f i n ≡ listFrom g i n
-unfolding listFrom
-listFrom-same f g h i zero = refl
-listFrom-same f g h i (suc n) = ap₂ (λ (x : ℕ) (l : List ℕ). x ∷ l) (h i) (listFrom-same f g h (suc i) n)
 
 -- one element n times, and itself past the end
 pub zero-at : (z n j : ℕ) → getD (replicate n z) j z ≡ z

@@ -45,9 +45,6 @@ module _ (samples : ℕ → List ℕ) (frame : List ℕ) (g : Geometry) where
   filled-start buf el = record { holds = record { each = λ p l. rw (filled-none g p); room = omega (arith, el) }; long = el }
 
   module _ (s : ℕ) (buf : List ℕ) (w : Filled samples frame g s buf) where
-    pub filled-long : length buf ≡ allSamples g
-    filled-long = w .long
-
     -- every plane has its K slices, so every sample is defined
     pub filled-planes : (f : ℕ → Answer) (t : ℕ) (seen : List ℕ) → Going f frame g t seen s → Sound g → t ≤ s → Planes g (planeOf samples frame g) buf
     unfolding stp.planeOf geo.allSamples geo.planeStart

@@ -90,12 +90,6 @@ module _ (frame : List ℕ) (g : Geometry) (s : ℕ) (a : SliceAt) (is : a ≡ s
     unfolding str.stretchOf
     start-is = rw er
 
-    width-is : r .width ≡ a .width
-    unfolding str.stretchOf
-    width-is =
-        let e : planeWidth g (a .plane) ≡ planeWidth g (planeIndex frame g s) = ap (planeWidth g) (at-plane frame g s a is) in
-        rw er (e ∙ sym (at-width frame g s a is))
-
     pitch-is : r .pitch ≡ a .width
     unfolding str.stretchOf
     pitch-is =

@@ -17,7 +17,7 @@ use Rattle.scope.specs.Geometry as geo
 use Rattle.scope.specs.Geometry.{correlated, planeCount, planeWidth, planeHeight, planeSamples, allSamples, swapped, orderOf, planeStart}
 use Rattle.scope.specs.Prediction.{plus}
 use Rattle.scope.specs.Frame as frm
-use Rattle.scope.specs.Frame.{wirePlane, bufferPlane, planesUpTo, pictureOf}
+use Rattle.scope.specs.Frame.{bufferPlane, planesUpTo}
 use Rattle.scope.specs.declared.Geometry.{Geometry}
 use Rattle.geometry.specs.Sound.{Sound}
 use Rattle.geometry.proofs.Order.{Order, stretch-in}

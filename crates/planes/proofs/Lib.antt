@@ -1,4 +1,3 @@
 pub mod Holds
 pub mod Adding
 pub mod Colours
-pub mod Laid

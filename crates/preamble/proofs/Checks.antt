@@ -117,11 +117,6 @@ module _ (frame : List ℕ) (g : Geometry) where
   pub indices-told : (a : Answer) → a ≡ preambleChecks frame g → a ≡ Done → preambleStart g + 1 + sliceCount g ≤ length frame
   indices-told a e h = indices-in frame g (sym h ∙ e)
 
-  -- none of 5 to 8: the indices are in the frame, and each names its plane
-  pub layout-indices : Done ≡ layoutChecks frame g → preambleStart g + 1 + sliceCount g ≤ length frame
-  unfolding laid.layoutChecks
-  layout-indices e = indices-in frame g (first-passed (preambleChecks frame g) _ e)
-
   -- each slice names a plane that has room for it
   pub layout-order : Done ≡ layoutChecks frame g → Done ≡ inOrder (sliceCount g) (indexCheck frame g)
   unfolding laid.layoutChecks

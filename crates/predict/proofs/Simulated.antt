@@ -14,7 +14,7 @@ use lib.Seq.{getD-take}
 use Rattle.scope.specs.Base.{Step}
 use Rattle.scope.specs.Prediction.{predictor}
 use Rattle.memory.specs.Loop.{swept}
-use Rattle.rows.specs.Rows.{leftward, across, rowFrom, firstRow, laterRow, row}
+use Rattle.rows.specs.Rows.{leftward, across, rowFrom, topRow, laterRow, row}
 use Rattle.views.specs.Places.{samplesAt, gapsAt, rowsPlaces}
 use Rattle.views.proofs.Elements.{row-set, row-set-keeps, row-get}
 
@@ -118,7 +118,7 @@ module _ (w p h r : ℕ) (l : w ≤ p) (k : r < h) where
   unfolding row
   row-like depth kind f s₀ s v o q room a = go (decLt r f)
     where
-      go : Dec (r < f) → Like (rowsPlaces w p h) s₀ (cond (ltb (r * p) (f * p)) (firstRow depth s (r * p) (r * p + w)) (laterRow depth kind (f * p) s (r * p) (r * p + w))) (cond (ltb (r * w) (f * w)) (firstRow depth v (r * w) (r * w + w)) (laterRow depth kind (f * w) v (r * w) (r * w + w)))
+      go : Dec (r < f) → Like (rowsPlaces w p h) s₀ (cond (ltb (r * p) (f * p)) (topRow depth s (r * p) (r * p + w)) (laterRow depth kind (f * p) s (r * p) (r * p + w))) (cond (ltb (r * w) (f * w)) (topRow depth v (r * w) (r * w + w)) (laterRow depth kind (f * w) v (r * w) (r * w + w)))
       go (yes g) =
           let x : r * p < f * p = omega (arith, suc-mul r p, mul-le-mul-right p g, l) in
           let y : r * w < f * w = omega (arith, suc-mul r w, mul-le-mul-right w g) in

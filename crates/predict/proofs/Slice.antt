@@ -15,7 +15,7 @@ use lib.Seq.{getD-take}
 use Rattle.scope.specs.Base.{Step}
 use Rattle.scope.specs.Prediction.{prediction, sample, samplesOf, predictor}
 use Rattle.memory.proofs.InPlace.{At, at-start, at-step, at-end, at-below, swept-at}
-use Rattle.rows.specs.Rows.{leftward, across, rowFrom, firstRow, laterRow, row, Above}
+use Rattle.rows.specs.Rows.{leftward, across, rowFrom, topRow, laterRow, row, Above}
 
 -- ---- columns: a row starts at a place that the width divides
 
@@ -125,7 +125,7 @@ module _ (depth kind width f : ℕ) (xs : List ℕ) where
           where
             go : Dec (start < back)
                 → At (sample depth (predictor depth kind) width f) xs
-                (cond (ltb start back) (firstRow depth s start end) (laterRow depth kind back s start end)) end
+                (cond (ltb start back) (topRow depth s start end) (laterRow depth kind back s start end)) end
             go (yes l) =
                 rw (lt-ltb start back l)
                 (first-row-at depth (predictor depth kind) width f xs s start end (r .made) (r .column) (omega arith) (omega arith)

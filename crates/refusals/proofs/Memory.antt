@@ -15,7 +15,7 @@ use Rattle.scope.specs.declared.Place.{Place}
 use Rattle.scope.specs.declared.Answer.{Answer}
 use Rattle.scope.specs.declared.Answer.the-variants.{Done, Refused}
 use Rattle.refusals.specs.Rows.{Every}
-use Rattle.refusals.specs.Memory.{Call, answerTo, pictureFor, Allowed, Accounted, LentAlike, SameEnd, Forgotten, Demand1}
+use Rattle.refusals.specs.Memory.{Call, pictureFor, Allowed, Accounted, LentAlike, Forgotten, Demand1}
 use Rattle.refusals.proofs.Rows.{every-answer}
 
 -- ---- no number above 15, and none that is 0

@@ -10,7 +10,7 @@ use Rattle.scope.specs.Base.{Step}
 use Rattle.scope.specs.Prediction.{predictor, gradient, clampMedian, t87Median}
 use Rattle.memory.specs.Loop.{swept}
 use Rattle.memory.proofs.InPlace.{swept-same}
-use Rattle.rows.specs.Rows.{leftward, across, rowFrom, firstRow, laterRow, row}
+use Rattle.rows.specs.Rows.{leftward, across, rowFrom, topRow, laterRow, row}
 use Rattle.rows.proofs.Formulas.{by-left, by-gradient, by-clamp, by-t87}
 use Rattle.rows.proofs.Across.{above-set}
 
@@ -21,7 +21,7 @@ set-kept s ys i v e = e ∙ length-set s i v
 module _ (depth : ℕ) (s ys : List ℕ) (start end v : ℕ) where
   -- one of the first f rows
   pub first-made : v ≡ (getD s start 0 + 0) % 2 ^ depth → ys ≡ swept (leftward depth) (set s start v) (start + 1) (end - (start + 1))
-      → ys ≡ firstRow depth s start end
+      → ys ≡ topRow depth s start end
   unfolding rowFrom
   first-made e k = rw e at k
 
@@ -58,7 +58,7 @@ clamp-made s ys start end v kind back e h k =
     later-made 8 s ys start end v kind back e (across 8 (clampMedian 8) back) (λ i p x. rw (by-clamp kind _ _ _ h k))
 
 -- a row among the first f
-pub row-first : (depth kind back : ℕ) (s ys : List ℕ) (start end : ℕ) → start < back → ys ≡ firstRow depth s start end
+pub row-first : (depth kind back : ℕ) (s ys : List ℕ) (start end : ℕ) → start < back → ys ≡ topRow depth s start end
     → ys ≡ row depth kind back s start end
 unfolding row
 row-first depth kind back s ys start end h e = simp (lt-ltb start back h) e

@@ -24,8 +24,8 @@ rowFrom depth above step s start end =
     swept step (set s start ((getD s start 0 + above) % 2 ^ depth)) (start + 1) (end - (start + 1))
 
 -- "the first min(f, rows) rows start from their own first residue and add the left sample across"
-abbrev pub firstRow : ℕ → List ℕ → ℕ → ℕ → List ℕ
-firstRow depth s start end = rowFrom depth 0 (leftward depth) s start end
+abbrev pub topRow : ℕ → List ℕ → ℕ → ℕ → List ℕ
+topRow depth s start end = rowFrom depth 0 (leftward depth) s start end
 
 -- "Later rows add, in column 0, the sample f rows up; then the predictor"
 abbrev pub laterRow : ℕ → ℕ → ℕ → List ℕ → ℕ → ℕ → List ℕ
@@ -35,7 +35,7 @@ laterRow depth kind back s start end =
 -- a row of either sort
 unfoldable pub row : ℕ → ℕ → ℕ → List ℕ → ℕ → ℕ → List ℕ
 row depth kind back s start end =
-    let first : List ℕ = firstRow depth s start end in
+    let first : List ℕ = topRow depth s start end in
     let later : List ℕ = laterRow depth kind back s start end in
     cond (ltb start back) first later
 

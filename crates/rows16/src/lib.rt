@@ -5,7 +5,7 @@ ghost use Prim.Native.Nat.{_+_, _-_, _%_, _^_, _≤_, _<_, min, max};
 ghost use lib.ListN.{length};
 ghost use Rattle.scope.specs.Prediction.{gradient, t87Median};
 ghost use Rattle.memory.specs.Loop.{swept};
-ghost use Rattle.rows.specs.Rows.{leftward, across, Above, firstRow, laterRow, row};
+ghost use Rattle.rows.specs.Rows.{leftward, across, Above, topRow, laterRow, row};
 
 // The smaller of two samples.
 fn min_u16(a: u16, b: u16) -> u16
@@ -102,7 +102,7 @@ fn median_row_u16(s: &mut [u16], start: usize, end: usize, back: usize, depth: u
 fn first_row_u16(s: &mut [u16], start: usize, end: usize, depth: usize)
     requires { ⌜ (start < end) × (end ≤ length (now s)) ⌝ }
     requires { ⌜ depth ≤ 16 ⌝ }
-    ensures { λ _. ⌜ now (s .exit) ≡ firstRow depth (now (s .entry)) start end ⌝ }
+    ensures { λ _. ⌜ now (s .exit) ≡ topRow depth (now (s .entry)) start end ⌝ }
 {
     s[start] = memory::sum_u16(s[start], 0, depth);
     left_row_u16(s, start + 1, end, depth);

@@ -4,12 +4,12 @@ use mathlib.Core.Path.{_≡_}
 use mathlib.Core.List.{List}
 use Prim.Native.Nat.{ℕ, _≤_, _<_}
 use borrow.Author.Needs.{needs}
-use Rattle.rows.specs.Rows.{firstRow, laterRow, row}
+use Rattle.rows.specs.Rows.{topRow, laterRow, row}
 use Rattle.rows.proofs.Parts.{row-first, row-later}
 
 module _ (depth kind back : ℕ) (s ys : List ℕ) (start end : ℕ) (d : depth ≡ 8) where
   -- a row among the first f
-  pub first-eight : start < back → ys ≡ firstRow 8 s start end → ys ≡ row depth kind back s start end
+  pub first-eight : start < back → ys ≡ topRow 8 s start end → ys ≡ row depth kind back s start end
   first-eight h e = rw d (row-first 8 kind back s ys start end h e)
 
   -- a later row

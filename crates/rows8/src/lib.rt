@@ -5,7 +5,7 @@ ghost use Prim.Native.Nat.{_+_, _-_, _≤_, _<_, min, max};
 ghost use lib.ListN.{length};
 ghost use Rattle.scope.specs.Prediction.{gradient, clampMedian};
 ghost use Rattle.memory.specs.Loop.{swept};
-ghost use Rattle.rows.specs.Rows.{leftward, across, firstRow, laterRow, row};
+ghost use Rattle.rows.specs.Rows.{leftward, across, topRow, laterRow, row};
 
 // The smaller of two samples.
 fn min_u8(a: u8, b: u8) -> u8
@@ -93,7 +93,7 @@ fn median_row_u8(s: &mut [u8], start: usize, end: usize, back: usize)
 // One of the first f rows: it starts from its own first residue.
 fn first_row_u8(s: &mut [u8], start: usize, end: usize)
     requires { ⌜ (start < end) × (end ≤ length (now s)) ⌝ }
-    ensures { λ _. ⌜ now (s .exit) ≡ firstRow 8 (now (s .entry)) start end ⌝ }
+    ensures { λ _. ⌜ now (s .exit) ≡ topRow 8 (now (s .entry)) start end ⌝ }
 {
     s[start] = std::num::wrapping_add_u8(s[start], 0);
     left_row_u8(s, start + 1, end);

@@ -12,7 +12,6 @@ use Rattle.scope.specs.Lookup.{tableOf}
 use Rattle.scope.specs.Frame.{readable, symbolsOf}
 use Rattle.scope.specs.declared.Place.the-variants.{Plane, Nothing}
 use Rattle.scope.specs.declared.Answer.{Answer}
-use Rattle.scope.specs.declared.Answer.the-variants.{Done, Refused}
 
 -- "A table built by itself is refused for more than 16,384 lengths by 4, then by 9, 10 and 11 as above for that one plane"
 unfoldable pub buildAnswer : List ℕ → ℕ → Answer

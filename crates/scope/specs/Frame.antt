@@ -1,9 +1,9 @@
 -- Document 01, "Refusal numbers": its table down the page, and what a decode answers and leaves, as one function of what is
 -- lent. frame, lengths: bytes as lists; g: the geometry; s: a slice's number; p: a plane's, in wire order. Assumes nothing.
 use mathlib.Core.Path.{_≡_}
-use Prim.Native.Nat.{ℕ, zero, suc, _+_, _-_, _*_, _/_, _%_, _^_}
+use Prim.Native.Nat.{ℕ, zero, suc, _+_, _-_, _*_, _^_}
 use mathlib.Core.Bool.{Bool, true, false, cond, not, _&&_}
-use mathlib.Core.List.{List, [], _∷_, _++_}
+use mathlib.Core.List.{List, [], _++_}
 use lib.ListN.{length}
 use lib.Dec.{eqb, ltb, leb}
 use Rattle.scope.specs.Base.{overUp, sumBelow, zeros}

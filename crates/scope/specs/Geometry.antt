@@ -1,10 +1,10 @@
 -- Document 01, "What comes in, what is ported" and the first lines of "Layout": the geometry record, its rules, and the figures
 -- of each plane. g is the geometry, p a plane's number in wire order, k a place in its plane. Assumes nothing.
 use Prim.Native.Nat.{ℕ, zero, suc, _+_, _-_, _*_, _/_, _%_, _^_, min}
-use mathlib.Core.Bool.{Bool, true, false, cond, not, _&&_, _||_}
+use mathlib.Core.Bool.{Bool, true, false, cond, _&&_, _||_}
 use mathlib.Core.List.{List}
 use lib.ListN.{take, drop}
-use lib.Dec.{eqb, ltb, leb}
+use lib.Dec.{eqb, leb}
 use Rattle.scope.specs.Base.{overUp, sumBelow}
 use Rattle.scope.specs.declared.Family.{Family}
 use Rattle.scope.specs.declared.Family.the-variants.{Gray, Rgb, Yuv, Rgba, Yuva}

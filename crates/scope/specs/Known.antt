@@ -1,15 +1,14 @@
 -- Document 01, "Known answers": one table under one statement, which the checker computes. A star marks the answers that
 -- document 01 wants proved. The rows without one are its other answers, and rows of our own for what a slip could get wrong
 -- ("Slips to shut out"). Assumes nothing.
-use mathlib.Core.Path.{_≡_}
-use Prim.Native.Nat.{ℕ, zero, suc, _+_, _-_, _*_}
+use Prim.Native.Nat.{ℕ, zero, suc, _-_}
 use mathlib.Core.Bool.{Bool, true, false, cond, _&&_}
 use mathlib.Core.List.{List, [], _∷_, _++_}
 use lib.ListN.{length, take, set, replicate}
 use lib.Dec.{T, eqb}
 use Rattle.scope.specs.Base.{count, sumBelow, listFrom, grown}
 use Rattle.scope.specs.Refusals.{numberOf, placeOf, kindNumber, placeNumber, inOrder, leftBy}
-use Rattle.scope.specs.Geometry.{sizeFits, factorFits, geometryFits, factorsDivide, sliceHeightDivides, small, planeWidth, planeHeight, planeSliceHeight, firstRow, rowsAt, planeSamples, allSamples, lengthsOf, fields, swapped, planeStart, rowStart}
+use Rattle.scope.specs.Geometry.{sizeFits, factorFits, geometryFits, factorsDivide, sliceHeightDivides, small, planeWidth, planeHeight, planeSliceHeight, rowsAt, planeSamples, allSamples, lengthsOf, fields, swapped, planeStart, rowStart}
 use Rattle.scope.specs.Layout.{le32, entry, preambleEnd, countByte, planeIndex, namedBefore, placeInPlane, sliceStart, sliceEnd, isRaw, predictorOf, payloadOf, samplesIn}
 use Rattle.scope.specs.Bits.{bitAt, window, packedFrom, rawSamples}
 use Rattle.scope.specs.Words.{lengthOf, longest, shorter, shortest, tooLong, share, shares, overfull, startDown, first, wordOf, isHead, headBelow, heads, needFrom, need, beginsWith, wordBelow, wordAt, Chain, symbols, stuckAt, _before_, onWord, chainBy, chain}

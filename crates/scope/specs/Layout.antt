@@ -1,7 +1,7 @@
 -- Document 01, "Layout": where things stand in a frame. Every other file reads the frame through these names alone.
 -- s is a slice's number in wire order. Assumes nothing.
 use Prim.Native.Nat.{ℕ, zero, suc, _+_, _-_, _*_, _%_}
-use mathlib.Core.Bool.{Bool, true, false, cond}
+use mathlib.Core.Bool.{Bool, cond}
 use mathlib.Core.List.{List}
 use lib.ListN.{length, take, drop, getD}
 use lib.Dec.{eqb, ltb}

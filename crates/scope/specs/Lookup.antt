@@ -1,7 +1,7 @@
 -- Document 01, "Words and lookup": the words of the workspace within the need, and the lookup that reads them. The layout of
 -- the table is ours; that the lookup over it gives the word at the bits is a law about these definitions. Assumes nothing.
 use Prim.Native.Nat.{ℕ, zero, suc, _+_, _-_, _*_, _/_, _%_, _^_}
-use mathlib.Core.Bool.{Bool, true, false, cond, _&&_}
+use mathlib.Core.Bool.{Bool, cond, _&&_}
 use mathlib.Core.List.{List, [], _∷_, _++_}
 use lib.ListN.{length, getD}
 use lib.Dec.{eqb, ltb, leb}

@@ -1,9 +1,9 @@
 -- For an entry: slice s of a frame, read by any lookup that finds the words of its plane's code, answers and gives what document 01's
 -- definitions say (crates/scope/specs/Frame.antt). Only here are the code lengths named. Assumes nothing.
-use mathlib.Core.Path.{_≡_, refl, ap}
+use mathlib.Core.Path.{_≡_, ap}
 use mathlib.Core.Bool.{cond}
 use mathlib.Core.List.{List}
-use Prim.Native.Nat.{ℕ, _*_}
+use Prim.Native.Nat.{ℕ}
 use Rattle.scope.specs.Geometry.{fields}
 use Rattle.scope.specs.Layout as lay
 use Rattle.scope.specs.Layout.{isRaw, payloadOf, samplesIn, sliceAt}
@@ -14,17 +14,7 @@ use Rattle.scope.specs.Frame.{sliceLengths, residuesOf, readCheck, sliceSamples
 use Rattle.scope.specs.declared.Geometry.{Geometry}
 use Rattle.scope.specs.declared.Found.{Found}
 use Rattle.codes.proofs.Chains.{chain-same}
-use Rattle.slice.specs.Slice.{payloadIn, residuesBy, readBy, samplesBy}
-
--- the record's payload is the slice's
-pub payload-is : (frame : List ℕ) (g : Geometry) (s : ℕ) → payloadIn frame (sliceAt frame g s) ≡ payloadOf frame g s
-unfolding lay.sliceAt lay.payloadOf
-payload-is frame g s = refl
-
--- and so is its count of samples
-pub samples-are : (frame : List ℕ) (g : Geometry) (s : ℕ) → sliceAt frame g s .rows * sliceAt frame g s .width ≡ samplesIn frame g s
-unfolding lay.sliceAt lay.samplesIn
-samples-are frame g s = refl
+use Rattle.slice.specs.Slice.{residuesBy, readBy, samplesBy}
 
 module _ (frame : List ℕ) (g : Geometry) (lengths : List ℕ) (s : ℕ) (look : ℕ → Found)
     (same : (p : ℕ) → look p ≡ wordAt (sliceLengths frame g lengths s) (payloadOf frame g s) p) where

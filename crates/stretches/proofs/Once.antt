@@ -5,15 +5,10 @@ use mathlib.Core.Path.{sym, _∙_}
 use contract.Lifetimes.{Lfts}
 use Rattle.lists.specs.Settled.{Settles}
 use borrow.Fn.World.{ArgsD}
-use Rattle.stretches.proofs.plane_samples as plane-samples
-use Rattle.stretches.proofs.plane_samples.Reads as plane-samples-reads
 use Rattle.stretches.proofs.all_elements as all-elements
 use Rattle.stretches.proofs.all_elements.Reads as all-elements-reads
 use Rattle.stretches.proofs.stretch_of as stretch-of
 use Rattle.stretches.proofs.stretch_of.Reads as stretch-of-reads
-
-pub plane-samples-once : (κs : Lfts 0) (a : ArgsD plane-samples.signature κs) → Settles (plane-samples-reads.Post κs a)
-plane-samples-once κs a r₁ r₂ s₁ s₂ p q = p .0 ∙ sym (q .0)
 
 pub all-elements-once : (κs : Lfts 0) (a : ArgsD all-elements.signature κs) → Settles (all-elements-reads.Post κs a)
 all-elements-once κs a r₁ r₂ s₁ s₂ p q = p .0 ∙ sym (q .0)

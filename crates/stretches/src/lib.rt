@@ -13,7 +13,7 @@ ghost use Rattle.scope.specs.Base.{sumBelow};
 ghost use Rattle.geometry.specs.Sound.{Sound};
 ghost use Rattle.stretches.specs.Stretch.{stretchOf};
 
-pub fn plane_samples(g: Geometry, p: usize) -> usize
+fn plane_samples(g: Geometry, p: usize) -> usize
     requires { ⌜ Sound g ⌝ }
     ensures { λ r. ⌜ (r ≡ planeSamples g p) × (r ≤ 268435456) ⌝ }
 {

@@ -1,34 +1,32 @@
 -- What the codes of a frame tell their callers, field by field: the answer of 9 and 10, and, where no plane is refused, each plane's stretch
 -- of the workspace, its longest and its shortest length, and all needs together. Assumes nothing.
-use mathlib.Core.Path.{_≡_, refl, sym, ap, ap₂, _∙_}
+use mathlib.Core.Path.{_≡_, refl, sym, ap, _∙_}
 use mathlib.Core.List.{List}
 use Prim.Native.Nat.{ℕ, suc, _+_, _-_, _*_, _≤_, _<_}
 use native.Mathlib.Omega.{arith}
-use borrow.Author.Tests.{lt-ltb, le-ltb, ltb-false}
+use borrow.Author.Tests.{ltb-false}
 use mir.Syntax.{w64}
 use mir.Val.{Fits}
-use lib.ListN.{length, getD}
+use lib.ListN.{getD}
 use Rattle.scope.specs.Base as base
-use Rattle.scope.specs.Base.{part}
 use Rattle.scope.specs.Refusals.{inOrder}
 use Rattle.scope.specs.Geometry.{planeCount, lengthsOf}
 use Rattle.scope.specs.Words as wrd
 use Rattle.scope.specs.Words.{longest, shortest, shares, tooLong, overfull}
-use Rattle.scope.specs.Lookup.{tableOf}
 use Rattle.scope.specs.Frame as frm
-use Rattle.scope.specs.Frame.{lengthCheck, needOfAll, roomCheck}
+use Rattle.scope.specs.Frame.{lengthCheck, needOfAll}
 use Rattle.scope.specs.declared.Geometry.{Geometry}
-use Rattle.scope.specs.declared.Place.the-variants.{Plane, Nothing}
+use Rattle.scope.specs.declared.Place.the-variants.{Plane}
 use Rattle.scope.specs.declared.Answer.{Answer}
 use Rattle.scope.specs.declared.Answer.the-variants.{Done, Refused}
 use Rattle.codes.proofs.Shortness.{shortest-most}
 use Rattle.geometry.proofs.Places.{planes-most}
 use Rattle.lists.proofs.Sums.{sum-next}
 use Rattle.refusals.proofs.InOrder.{both-passed, each-passed}
-use Rattle.tables.specs.Tables.{planeNeed, tableStart, Tables}
+use Rattle.tables.specs.Tables.{planeNeed, tableStart}
 use Rattle.tables.specs.Codes.{noCodes, codesUpTo, codesBy, codesOf}
 use Rattle.tables.specs.declared.Codes.{Codes}
-use Rattle.tables.proofs.Arrays.{per-four, per-at}
+use Rattle.tables.proofs.Arrays.{per-at}
 
 -- ---- lengths that pass 9 and 10
 
@@ -53,26 +51,6 @@ module _ (g : Geometry) (lengths : List ℕ) where
   by-answer Done = refl
   by-answer (Refused n p) = refl
 
-  by-from : (a : Answer) → length (codesBy g lengths a .from) ≡ 4
-  unfolding codesBy codesUpTo noCodes
-  by-from Done = per-four (planeCount g) (tableStart g lengths)
-  by-from (Refused n p) = refl
-
-  by-to : (a : Answer) → length (codesBy g lengths a .to) ≡ 4
-  unfolding codesBy codesUpTo noCodes
-  by-to Done = per-four (planeCount g) (λ p. tableStart g lengths (suc p))
-  by-to (Refused n p) = refl
-
-  by-longest : (a : Answer) → length (codesBy g lengths a .longest) ≡ 4
-  unfolding codesBy codesUpTo noCodes
-  by-longest Done = per-four (planeCount g) (λ p. longest (lengthsOf g lengths p))
-  by-longest (Refused n p) = refl
-
-  by-shortest : (a : Answer) → length (codesBy g lengths a .shortest) ≡ 4
-  unfolding codesBy codesUpTo noCodes
-  by-shortest Done = per-four (planeCount g) (λ p. shortest (lengthsOf g lengths p))
-  by-shortest (Refused n p) = refl
-
 -- ---- c is the codes of g and lengths
 
 module _ (g : Geometry) (lengths : List ℕ) (c : Codes) (is : c ≡ codesOf g lengths) where
@@ -80,23 +58,6 @@ module _ (g : Geometry) (lengths : List ℕ) (c : Codes) (is : c ≡ codesOf g l
   pub answer-is : c .answer ≡ inOrder (planeCount g) (lengthCheck g lengths)
   unfolding codesOf
   answer-is = ap (λ (x : Codes). x .answer) is ∙ by-answer g lengths (inOrder (planeCount g) (lengthCheck g lengths))
-
-  -- each array has four elements
-  pub four-from : length (c .from) ≡ 4
-  unfolding codesOf
-  four-from = ap (λ (x : Codes). length (x .from)) is ∙ by-from g lengths (inOrder (planeCount g) (lengthCheck g lengths))
-
-  pub four-to : length (c .to) ≡ 4
-  unfolding codesOf
-  four-to = ap (λ (x : Codes). length (x .to)) is ∙ by-to g lengths (inOrder (planeCount g) (lengthCheck g lengths))
-
-  pub four-longest : length (c .longest) ≡ 4
-  unfolding codesOf
-  four-longest = ap (λ (x : Codes). length (x .longest)) is ∙ by-longest g lengths (inOrder (planeCount g) (lengthCheck g lengths))
-
-  pub four-shortest : length (c .shortest) ≡ 4
-  unfolding codesOf
-  four-shortest = ap (λ (x : Codes). length (x .shortest)) is ∙ by-shortest g lengths (inOrder (planeCount g) (lengthCheck g lengths))
 
   -- no plane is refused
   module _ (ok : c .answer ≡ Done) where
@@ -111,22 +72,6 @@ module _ (g : Geometry) (lengths : List ℕ) (c : Codes) (is : c ≡ codesOf g l
     pub need-is : c .need ≡ needOfAll g lengths
     unfolding codesUpTo tableStart frm.needOfAll
     need-is = ap (λ (x : Codes). x .need) known
-
-    -- a workspace of so many words is enough, which 11 finds too
-    module _ (words : ℕ) (h : c .need ≤ words) where
-      pub room-enough : needOfAll g lengths ≤ words
-      room-enough = omega (arith, need-is)
-
-      pub room-passed : Done ≡ roomCheck g lengths words
-      unfolding frm.roomCheck
-      room-passed = sym (simp (le-ltb words (needOfAll g lengths) room-enough))
-
-    -- or is not
-    pub room-refused : (words : ℕ) → words < c .need → Refused 11 Nothing ≡ roomCheck g lengths words
-    unfolding frm.roomCheck
-    room-refused words h =
-        let k : words < needOfAll g lengths = omega (arith, need-is) in
-        sym (simp (lt-ltb words (needOfAll g lengths) k))
 
     -- plane p
     module _ (p : ℕ) (l : p < planeCount g) where
@@ -161,10 +106,7 @@ module _ (g : Geometry) (lengths : List ℕ) (c : Codes) (is : c ≡ codesOf g l
       unfolding codesUpTo
       shortest-is = ap (λ (x : Codes). getD (x .shortest) p 0) known ∙ per-at (planeCount g) (λ q. shortest (lengthsOf g lengths q)) p plane-four l
 
-      -- neither is above 18
-      pub longest-small : getD (c .longest) p 0 ≤ 18
-      longest-small = omega (arith, longest-is, plane-short g lengths p plane-passed)
-
+      -- it is at most 18
       pub shortest-small : getD (c .shortest) p 0 ≤ 18
       shortest-small = omega (arith, shortest-is, shortest-most (lengthsOf g lengths p), plane-short g lengths p plane-passed)
 
@@ -186,9 +128,3 @@ module _ (g : Geometry) (lengths : List ℕ) (c : Codes) (is : c ≡ codesOf g l
       pub stretch-room : (words : ℕ) → needOfAll g lengths ≤ words → getD (c .to) p 0 ≤ words
       unfolding tableStart frm.needOfAll
       stretch-room words h = omega (arith, stretch-long, from-is, sum-next (planeNeed g lengths) p (planeCount g) l)
-
-      -- and holds the table, where the tables are built
-      pub stretch-table : (workspace : List ℕ) → Tables g lengths workspace
-          → part workspace (getD (c .from) p 0) (getD (c .to) p 0 - getD (c .from) p 0) ≡ tableOf (lengthsOf g lengths p)
-      stretch-table workspace t =
-          ap₂ (λ (x y : ℕ). part workspace x y) from-is stretch-size ∙ t .each p l

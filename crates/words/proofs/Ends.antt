@@ -10,7 +10,7 @@ use lib.ListN.{getD}
 use borrow.Author.Tests.{eq-eqb, ne-eqb}
 use Rattle.scope.specs.Base.{count}
 use Rattle.scope.specs.Words.{longest, shortest}
-use Rattle.codes.proofs.Counts.{longest-count}
+use Rattle.codes.proofs.Longest.{longest-count}
 use Rattle.words.specs.Tally.{countsOf, highest, lowest}
 use Rattle.words.proofs.Tallying.{counts-at}
 use Rattle.codes.proofs.Shortness.{shortest-most, none-at-all, none-below, none-above, shortest-count}

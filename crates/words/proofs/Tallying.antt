@@ -15,7 +15,7 @@ use lib.Seq.{getD-set-same, getD-set-other, take-all, length-take-le}
 use borrow.Author.Tests.{lt-ltb, le-ltb}
 use Rattle.scope.specs.Base.{one, count}
 use Rattle.scope.specs.Words.{longest, tooLong}
-use Rattle.codes.proofs.Counts.{longest-next, at-most-longest}
+use Rattle.codes.proofs.Longest.{longest-next, at-most-longest}
 use Rattle.lists.proofs.Counts.{count-next, count-le, one-same, one-other}
 use Rattle.lists.proofs.Made.{listBelow-only, getD-below}
 use Rattle.words.specs.Tally.{countsOf}

@@ -8,7 +8,7 @@ use native.Mathlib.Omega.{arith}
 use mathlib.Core.List.{List}
 use mathlib.Core.Bool.{Bool, true, false, not}
 use lib.ListN.{length, getD}
-use borrow.Author.Tests.{le-ltb, ltb-false, not-true, not-false}
+use borrow.Author.Tests.{le-ltb, ltb-false}
 use Rattle.scope.specs.Words.{longest, shortest, shares, overfull, tooLong, first, need, needFrom}
 use Rattle.scope.specs.Geometry.{lengthsOf}
 use Rattle.scope.specs.Frame.{lengthCheck}

@@ -5,7 +5,6 @@ use lib.ListN.{length}
 use borrow.Author.Needs.{needs}
 use Rattle.replay.proofs.replay_all.Statement.{statement}
 use Rattle.replay.proofs.replay_all.Tie as tie
-use Rattle.replay.proofs.replay_all.Reads as reads
 
 abbrev Inv-loop : tie.InvT-loop
 Inv-loop list lengths₀ at₀ i₀ wrong₀ t7 t8 lengths at i wrong = (at ≤ length list) × (i ≤ at) × (wrong ≤ i) × (length lengths ≡ length lengths₀)

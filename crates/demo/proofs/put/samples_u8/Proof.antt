@@ -1,5 +1,5 @@
 -- `demo::put::samples_u8` meets its contract: the loop ends. Assumes nothing.
-use Prim.Native.Nat.{_-_, _/_, _≤_}
+use Prim.Native.Nat.{_-_, _≤_}
 use lib.ListN.{length}
 use borrow.Author.Needs.{needs}
 use Rattle.demo.proofs.put.samples_u8.Statement.{statement}

@@ -4,6 +4,7 @@
   laws       a law of proofs/ or a definition of specs/ that nothing cites: its own file not outside its declaration, and no other file
              imports it (what a function's own folder in proofs/ proves is that function's proof, and a record's fields are its record's);
   functions  a `pub` function that no other crate calls; the twin of one that is called counts as called (tools/twins.txt).
+  ends       a name in tools/theorems.txt that nothing declares.
 The theorems of proofs/Once.antt are ends in themselves, and so is what tools/theorems.txt names, a name a line.
 
 Usage, at the repository's root:
@@ -36,6 +37,7 @@ class File:
         self.text = "\n".join(self.code)
         self.words = set(WORD.findall(self.text))
         self.crate = path.parts[1]
+        self.stated = path.suffix == ".antt" and len(path.parts) == 4  # laws or definitions, and no function's own proof
 
     def has(self, name):
         """Whether the code has a name, or all the pieces of an operator's name."""
@@ -104,7 +106,7 @@ def laws(files, ends):
                 cited |= {(alias[1], n) for n in re.findall(rf"(?<![^\s(){{}};,]){re.escape(alias[2])}\.({WORD.pattern})", file.text)}
     found = []
     for file in files:
-        if len(file.path.parts) != 4 or file.path.parts[2] not in ("proofs", "specs") or file.path.name in ("Lib.antt", "Once.antt"):
+        if not file.stated or file.path.name in ("Lib.antt", "Once.antt"):
             continue
         for name, first, last in declarations(file):
             rest = "\n".join(file.code[:first] + file.code[last + 1:])
@@ -132,13 +134,20 @@ def functions(files, ends):
     return found
 
 
+def stale(files, ends):
+    """Ends that nothing declares."""
+    laws = {name for f in files if f.stated for name, _, _ in declarations(f)}
+    calls = {f"{f.crate}::{name}" for f in files for name in re.findall(r"(?m)^pub fn (\w+)", f.text)}
+    return sorted(ends - laws - calls)
+
+
 def main():
     paths = sorted(p for p in pathlib.Path("crates").rglob("*") if p.suffix in (".rt", ".antt"))
     fix = "--fix" in sys.argv
     loose = [u for p in paths for u in imports(File(p), fix)]
     files = [File(p) for p in paths]
-    ends = {bare(line).split("#")[0].strip() for line in pathlib.Path("tools/theorems.txt").read_text().splitlines()}
-    found = {"imports": [] if fix else loose, "laws and definitions": laws(files, ends), "public functions": functions(files, ends)}
+    ends = {line for line in pathlib.Path("tools/theorems.txt").read_text().splitlines() if line and not line.startswith("#")}
+    found = {"imports": [] if fix else loose, "laws": laws(files, ends), "functions": functions(files, ends), "ends": stale(files, ends)}
     for title, what in found.items():
         print("\n".join([f"{title}: {len(what)}"] + [f"  {w}" for w in what]))
     sys.exit(any(found.values()))

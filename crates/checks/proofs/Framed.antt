@@ -40,13 +40,25 @@ module _ (frame : List ℕ) (g : Geometry) (shorts : List ℕ) (t : ℕ) (seen :
   unfolding slc.slicesBy
   by-slice = er ∙ ap (λ (q : ℕ). sliceCheckBy (length frame) (g .depth) (getD shorts q 0) a) ei ∙ ap (sliceCheckBy (length frame) (g .depth) (getD shorts (planeIndex frame g s) 0)) ea
 
-  -- slice s passes
-  pub slice-step : r ≡ Done → Going (slicesBy frame g shorts) frame g t (set seen p (getD seen p 0 + 1)) (s + 1)
-  slice-step = going-step (slicesBy frame g shorts) frame g t seen s w p ls ei r by-slice
-
   -- slice s is refused
   pub slice-refused : (n : ℕ) (pl : Place) → r ≡ Refused n pl → Refused n pl ≡ inOrder (sliceCount g) (slicesBy frame g shorts)
   slice-refused = going-refused (slicesBy frame g shorts) frame g t seen s w p ls ei r by-slice
+
+-- slice s passed: what the loop knew before it, its plane and record, and what its check answered
+pub record SlicePassed (frame : List ℕ) (g : Geometry) (shorts : List ℕ) (t : ℕ) (seen : List ℕ) (s p : ℕ) (a : SliceAt) (r : Answer) : Type 0 where
+  pub known : Going (slicesBy frame g shorts) frame g t seen s
+  pub within : s < t
+  pub plane-is : p ≡ planeIndex frame g s
+  pub record-is : a ≡ sliceAt frame g s
+  pub answer-is : r ≡ sliceCheckBy (length frame) (g .depth) (getD shorts p 0) a
+  pub passed : r ≡ Done
+
+-- so the loop knows the same of one slice more
+pub slice-step : {frame : List ℕ} {g : Geometry} {shorts : List ℕ} {t : ℕ} {seen : List ℕ} {s p : ℕ} {a : SliceAt} {r : Answer}
+    → SlicePassed frame g shorts t seen s p a r → Going (slicesBy frame g shorts) frame g t (set seen p (getD seen p 0 + 1)) (s + 1)
+slice-step {frame} {g} {shorts} {t} {seen} {s} {p} {a} {r} d =
+    going-step (slicesBy frame g shorts) frame g t seen s (d .known) p (d .within) (d .plane-is) r
+    (by-slice frame g shorts t seen s (d .known) p (d .within) (d .plane-is) a (d .record-is) r (d .answer-is)) (d .passed)
 
 -- a shortest word is a byte
 pub short-small : (g : Geometry) (shorts : List ℕ) (p : ℕ) → Shortests g shorts → p < planeCount g → getD shorts p 0 < 256

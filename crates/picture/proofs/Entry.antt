@@ -171,9 +171,8 @@ module _ (frame : List ℕ) (g : Geometry) (lengths : List ℕ) (c : Codes) (is 
     slice-passed : (s : ℕ) → s < sliceCount g → Done ≡ sliceCheck frame g lengths s
     slice-passed s l = each-passed (sliceCheck frame g lengths) (sliceCount g) s (frame-slices frame g lengths (roomCheck g lengths w) passed) l
 
-    -- what the reading asks, of the tables that were built
-    pub run-ready : (limit : ℕ) (workspace : List ℕ) → Sound g → 2 ^ g .depth ≤ limit → Tables g lengths workspace → Ready limit frame g workspace c
-    run-ready limit workspace ok few tb = record {
+    ready : (limit : ℕ) (workspace : List ℕ) → Sound g → 2 ^ g .depth ≤ limit → Tables g lengths workspace → Ready limit frame g workspace c
+    ready limit workspace ok few tb = record {
       sound = ok;
       indices = frame-order frame g lengths (roomCheck g lengths w) passed;
       slices = λ s l. passed-in frame g s (prefix-in frame g lengths s (slice-passed s l)) (slice-in frame g lengths s (slice-passed s l)) (raw-bits frame g lengths s (slice-passed s l)) (samples-most-in frame g s ok);
@@ -215,6 +214,19 @@ module _ (frame : List ℕ) (g : Geometry) (lengths : List ℕ) (c : Codes) (is 
         run-picture buf db pl = pl db ∙ planes-same _ _ (planeCount g) (λ q l. buffer-same (correlated (g .family)) (g .depth) _ _ planes-are q)
 
 -- ---- the steps of an entry
+
+-- no check refused: a is their answer, by the codes c, with w words lent and what 11 says of them
+pub record Checked (frame : List ℕ) (g : Geometry) (lengths : List ℕ) (c : Codes) (w : ℕ) (room a : Answer) : Type 0 where
+  pub codes-are : c ≡ codesOf g lengths
+  pub room-says : room ≡ refuseIf (ltb w (c .need)) 11 Nothing
+  pub checks-say : a ≡ framedBy frame g (c .answer) room (c .shortest)
+  pub done : a ≡ Done
+
+-- then all is as the reading asks, with the tables built
+pub run-ready : {frame : List ℕ} {g : Geometry} {lengths : List ℕ} {c : Codes} {w : ℕ} {room a : Answer} {limit : ℕ} {workspace : List ℕ}
+    → Checked frame g lengths c w room a → Sound g → 2 ^ g .depth ≤ limit → Tables g lengths workspace → Ready limit frame g workspace c
+run-ready {frame} {g} {lengths} {c} {w} {room} {a} {limit} {workspace} d =
+    ready frame g lengths c (d .codes-are) w (c .need) room refl (d .room-says) a (d .checks-say) (d .done) limit workspace
 
 -- an answer that is told
 pub told : (a b x : Answer) → a ≡ b → a ≡ x → x ≡ b

@@ -147,11 +147,10 @@ module _ (look : Look) (frame : List ℕ) (g : Geometry) (t : ℕ) where
       pub reading-refused : (n : ℕ) (pl : Place) → r ≡ Refused n pl → Refused n pl ≡ inOrder (sliceCount g) (readAt look frame g)
       reading-refused = going-refused (readAt look frame g) frame g t seen s (w .going) p ls ei r own
 
-      -- it is read
-      pub reading-step : Sound g → (buf′ : List ℕ) → r ≡ Done → (r ≡ Done → buf′ ≡ withRows g a (samplesFor look frame g (a .number)) buf) → length buf′ ≡ length buf
+      goes-on : Sound g → (buf′ : List ℕ) → r ≡ Done → (r ≡ Done → buf′ ≡ withRows g a (samplesFor look frame g (a .number)) buf) → length buf′ ≡ length buf
           → Reading look frame g t (set seen p (getD seen p 0 + 1)) (s + 1) buf′
       unfolding lay.placeInPlane
-      reading-step ok buf′ ed eb el =
+      goes-on ok buf′ ed eb el =
           record {
             going = going-step (readAt look frame g) frame g t seen s (w .going) p ls ei r own ed;
             filled = filled-more (samplesFor look frame g) frame g s buf (w .filled) ok p (getD seen p 0) pl buf′ there el;
@@ -170,5 +169,23 @@ module _ (look : Look) (frame : List ℕ) (g : Geometry) (t : ℕ) where
               (at-first frame g s a is ∙ sym (ap (firstRow g p) place-is ∙ ap (λ (q : ℕ). firstRow g q (placeInPlane frame g s)) ei))
               (at-rows frame g s a is ∙ sym (ap (rowsAt g p) place-is ∙ ap (λ (q : ℕ). rowsAt g q (placeInPlane frame g s)) ei))
               (at-width frame g s a is ∙ sym (ap (planeWidth g) ei))
+
+-- slice s was read: what the loop knew before it, its plane and record, what was answered, and the rows that it filled
+pub record SliceDone (look : Look) (frame : List ℕ) (g : Geometry) (t : ℕ) (seen : List ℕ) (s : ℕ) (buf : List ℕ) (p : ℕ) (a : SliceAt) (r : Answer) (buf′ : List ℕ) : Type 0 where
+  pub sound : Sound g
+  pub known : Reading look frame g t seen s buf
+  pub within : s < t
+  pub plane-is : p ≡ planeIndex frame g s
+  pub record-is : a ≡ sliceAt frame g s
+  pub answer-is : r ≡ readAt look frame g (a .number)
+  pub done : r ≡ Done
+  pub rows-are : r ≡ Done → buf′ ≡ withRows g a (samplesFor look frame g (a .number)) buf
+  pub kept : length buf′ ≡ length buf
+
+-- so the loop knows the same of one slice more
+pub reading-step : {look : Look} {frame : List ℕ} {g : Geometry} {t : ℕ} {seen : List ℕ} {s : ℕ} {buf : List ℕ} {p : ℕ} {a : SliceAt} {r : Answer} {buf′ : List ℕ}
+    → SliceDone look frame g t seen s buf p a r buf′ → Reading look frame g t (set seen p (getD seen p 0 + 1)) (s + 1) buf′
+reading-step {look} {frame} {g} {t} {seen} {s} {buf} {p} {a} {r} {buf′} d =
+    goes-on look frame g t seen s buf (d .known) p (d .within) (d .plane-is) a (d .record-is) r (d .answer-is) (d .sound) buf′ (d .done) (d .rows-are) (d .kept)
 
 pub ruleset readings = (reading-start, reading-four, reading-scaled, reading-fits, needs)

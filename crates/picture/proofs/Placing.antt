@@ -1,6 +1,6 @@
 -- One slice into its rows of the planes: which elements they are, that they lie within the buffer, and what they become. Assumes
 -- nothing.
-use mathlib.Core.Path.{_≡_, sym, ap, _∙_}
+use mathlib.Core.Path.{_≡_, refl, sym, ap, _∙_}
 use mathlib.Core.List.{List}
 use Prim.Native.Nat.{ℕ, _+_, _-_, _*_, _^_, _≤_, _<_}
 use native.Mathlib.Omega.{arith}
@@ -214,13 +214,32 @@ module _ (limit : ℕ) (frame : List ℕ) (g : Geometry) (workspace : List ℕ) 
     pub part-rowed : (planes : List ℕ) → length planes ≡ allElements g → Rowed (length (take (r .at + r .rows * r .pitch - r .at) (drop (r .at) planes))) (a .width) (r .pitch) (a .rows)
     part-rowed planes el = stretch-rowed frame g s a is pl (rd .sound) r er planes el few-rows
 
-    -- what it is given back as
-    pub part-put : (x y m : ℕ) → x ≡ getD (c .from) (a .plane) 0 → y ≡ getD (c .to) (a .plane) 0 → m ≡ getD (c .longest) (a .plane) 0
+    given-back : (x y m : ℕ) → x ≡ getD (c .from) (a .plane) 0 → y ≡ getD (c .to) (a .plane) 0 → m ≡ getD (c .longest) (a .plane) 0
         → (o : Answer) (xs ys : List ℕ) → length xs ≡ allElements g → length ys ≡ length (take (r .at + r .rows * r .pitch - r .at) (drop (r .at) xs))
         → (o ≡ Done → samplesAt (rowsPlaces (a .width) (r .pitch) (a .rows)) ys ≡ samplesBy (lookupIn (take (y - x) (drop x workspace)) m (payloadIn frame a)) (g .depth) (fields g) frame a)
         → o ≡ Done → putMid (r .at) (r .at + r .rows * r .pitch - r .at) xs ys ≡ withRows g a (samplesFor (tableLook workspace c) frame g s) xs
-    part-put x y m ex ey em o xs ys el ly e d =
+    given-back x y m ex ey em o xs ys el ly e d =
         stretch-put frame g s a is pl (rd .sound) r er xs ys (samplesFor (tableLook workspace c) frame g s) ly el (e d ∙ samples-at x y m ex ey em)
+
+-- the slice a was read into its stretch r of the planes xs, which then held ys, with the answer o
+pub record StretchRead (limit : ℕ) (frame : List ℕ) (g : Geometry) (workspace : List ℕ) (c : Codes) (a : SliceAt) (r : Stretch) (o : Answer) (xs ys : List ℕ) : Type 0 where
+  pub ready : Ready limit frame g workspace c
+  pub record-is : a ≡ sliceAt frame g (a .number)
+  pub below : a .number < sliceCount g
+  pub placed : Placed frame g (a .number) (a .plane) (a .place)
+  pub stretch-is : r ≡ stretchOf g (a .plane) (a .first) (a .rows)
+  pub long : length xs ≡ allElements g
+  pub kept : length ys ≡ length (take (r .at + r .rows * r .pitch - r .at) (drop (r .at) xs))
+  pub samples-are : o ≡ Done → samplesAt (rowsPlaces (a .width) (r .pitch) (a .rows)) ys ≡ samplesBy (lookupIn (take (getD (c .to) (a .plane) 0 - getD (c .from) (a .plane) 0) (drop (getD (c .from) (a .plane) 0) workspace)) (getD (c .longest) (a .plane) 0) (payloadIn frame a)) (g .depth) (fields g) frame a
+  pub done : o ≡ Done
+
+-- what the stretch is given back as
+pub part-put : {limit : ℕ} {frame : List ℕ} {g : Geometry} {workspace : List ℕ} {c : Codes} {a : SliceAt} {r : Stretch} {o : Answer} {xs ys : List ℕ}
+    → StretchRead limit frame g workspace c a r o xs ys
+    → putMid (r .at) (r .at + r .rows * r .pitch - r .at) xs ys ≡ withRows g a (samplesFor (tableLook workspace c) frame g (a .number)) xs
+part-put {limit} {frame} {g} {workspace} {c} {a} {r} {o} {xs} {ys} d =
+    given-back limit frame g workspace c (d .ready) (a .number) a (d .record-is) (d .placed) r (d .stretch-is) (d .below) (getD (c .from) (a .plane) 0)
+    (getD (c .to) (a .plane) 0) (getD (c .longest) (a .plane) 0) refl refl refl o xs ys (d .long) (d .kept) (d .samples-are) (d .done)
 
 -- no depth is above 16
 pub deep-most : (limit : ℕ) (frame : List ℕ) (g : Geometry) (workspace : List ℕ) (c : Codes) → Ready limit frame g workspace c → g .depth ≤ 16

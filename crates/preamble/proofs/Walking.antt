@@ -64,10 +64,9 @@ module _ (frame : List ℕ) (g : Geometry) (planes k t : ℕ) where
         so-far : getD seen p 0 ≡ namedBefore frame g (planeIndex frame g s) s
         so-far = let l : p < planeCount g = rw (w .planes-are) at lp in w .counted .counts p l ∙ ap (λ (y : ℕ). namedBefore frame g y s) ei
 
-        -- a slice whose plane has its K
-        pub walk-all-there : k ≤ getD seen p 0 → Refused 8 (Slice s) ≡ inOrder (sliceCount g) (indexCheck frame g)
+        all-there : k ≤ getD seen p 0 → Refused 8 (Slice s) ≡ inOrder (sliceCount g) (indexCheck frame g)
         unfolding frm.indexCheck lay.placeInPlane
-        walk-all-there h =
+        all-there h =
             one-refused (indexCheck frame g) (sliceCount g) s 8 (Slice s) (rw (w .slices-are) at ls) (w .passed)
             (rw (← so-far, ← w .per-plane-is, le-leb k (getD seen p 0) h, ← ei, ← w .planes-are, lt-leb planes p lp))
 
@@ -86,4 +85,17 @@ module _ (frame : List ℕ) (g : Geometry) (planes k t : ℕ) where
               slices-are = w .slices-are;
             }
 
-pub ruleset walks = (walk-start, walk-end, walk-no-plane, walk-all-there, walk-step, needs)
+-- slice s names a plane that has its K: what the loop knew before it, its plane, and what was counted there
+pub record PlaneFull (frame : List ℕ) (g : Geometry) (planes k t : ℕ) (seen : List ℕ) (s p : ℕ) : Type 0 where
+  pub known : Walk frame g planes k t seen s
+  pub within : s < t
+  pub plane-is : p ≡ planeIndex frame g s
+  pub plane-below : p < planes
+  pub all : k ≤ getD seen p 0
+
+-- it is refused
+pub walk-full : {frame : List ℕ} {g : Geometry} {planes k t : ℕ} {seen : List ℕ} {s p : ℕ} → PlaneFull frame g planes k t seen s p
+    → Refused 8 (Slice s) ≡ inOrder (sliceCount g) (indexCheck frame g)
+walk-full {frame} {g} {planes} {k} {t} {seen} {s} {p} d = all-there frame g planes k t seen s (d .known) p (d .within) (d .plane-is) (d .plane-below) (d .all)
+
+pub ruleset walks = (walk-start, walk-end, walk-no-plane, walk-step, needs)

@@ -50,7 +50,8 @@ left-cleared Done found cleared good h = absurd (omega (arith, h))
 left-cleared (Refused n p) found cleared good h = rw (lt-leb n 4 h)
 
 -- ---- one call
-module _ (deep : Bool) (frame : List ℕ) (g : Geometry) (lengths planes₀ workspace₀ : List ℕ) (r : Answer) (planes₁ workspace₁ : List ℕ) (d : Decoded deep frame g lengths planes₀ workspace₀ r planes₁ workspace₁) where
+module _ {deep : Bool} {frame : List ℕ} {g : Geometry} {lengths planes₀ workspace₀ : List ℕ} {r : Answer} {planes₁ workspace₁ : List ℕ}
+    (d : Decoded deep frame g lengths planes₀ workspace₀ r planes₁ workspace₁) where
   fine : Every Numbered r
   fine = rw (d .answer) (numbered deep frame g lengths (length planes₀) (length workspace₀))
 
@@ -77,33 +78,33 @@ module _ (deep : Bool) (frame : List ℕ) (g : Geometry) (lengths planes₀ work
 account : (deep : Bool) (c : Call) → Allowed deep c → Accounted deep c
 account deep c h =
     record {
-      number = number-small (c .answer) (fine deep (c .frame) (c .geometry) (c .lengths) _ _ _ _ _ h);
+      number = number-small (c .answer) (fine h);
       exact = h .answer;
-      done = when-done deep (c .frame) (c .geometry) (c .lengths) _ _ _ _ _ h;
-      found = when-found deep (c .frame) (c .geometry) (c .lengths) _ _ _ _ _ h;
-      cleared = when-cleared deep (c .frame) (c .geometry) (c .lengths) _ _ _ _ _ h;
+      done = when-done h;
+      found = when-found h;
+      cleared = when-cleared h;
     }
 
 -- ---- two calls
 
 -- what is lent alike gets one answer and one picture
-one-answer : (deep : Bool) (f f′ : List ℕ) (g g′ : Geometry) (l l′ : List ℕ) (p p′ w w′ : ℕ) → f ≡ f′ → g ≡ g′ → l ≡ l′ → p ≡ p′ → w ≡ w′
+one-answer : (deep : Bool) {f f′ : List ℕ} {g g′ : Geometry} {l l′ : List ℕ} {p p′ w w′ : ℕ} → f ≡ f′ → g ≡ g′ → l ≡ l′ → p ≡ p′ → w ≡ w′
     → answerOf deep f g l p w ≡ answerOf deep f′ g′ l′ p′ w′
-one-answer deep f f′ g g′ l l′ p p′ w w′ ef eg el ep ew = rw (ef, eg, el, ep, ew) refl
+one-answer deep ef eg el ep ew = rw (ef, eg, el, ep, ew) refl
 
-one-picture : (f f′ : List ℕ) (g g′ : Geometry) (l l′ : List ℕ) → f ≡ f′ → g ≡ g′ → l ≡ l′ → pictureOf f g l ≡ pictureOf f′ g′ l′
-one-picture f f′ g g′ l l′ ef eg el = rw (ef, eg, el) refl
+one-picture : {f f′ : List ℕ} {g g′ : Geometry} {l l′ : List ℕ} → f ≡ f′ → g ≡ g′ → l ≡ l′ → pictureOf f g l ≡ pictureOf f′ g′ l′
+one-picture ef eg el = rw (ef, eg, el) refl
 
 module _ (deep : Bool) (c d : Call) (h : Allowed deep c) (k : Allowed deep d) (same : LentAlike c d) where
   same-answer : c .answer ≡ d .answer
   same-answer =
-      h .answer ∙ one-answer deep _ _ _ _ _ _ _ _ _ _ (same .frame) (same .geometry) (same .lengths) (same .planes) (same .workspace) ∙ sym (k .answer)
+      h .answer ∙ one-answer deep (same .frame) (same .geometry) (same .lengths) (same .planes) (same .workspace) ∙ sym (k .answer)
 
   same-number : numberOf (d .answer) ≡ numberOf (c .answer)
   same-number = ap numberOf (sym same-answer)
 
   same-picture : pictureFor c ≡ pictureFor d
-  same-picture = one-picture _ _ _ _ _ _ (same .frame) (same .geometry) (same .lengths)
+  same-picture = one-picture (same .frame) (same .geometry) (same .lengths)
 
   forget : Forgotten c d
   forget =

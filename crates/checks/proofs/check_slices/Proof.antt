@@ -79,7 +79,15 @@ loop-again c =
     let made = checked .before in
     let named = made .before in
     let turn = named .before .before in
-    slice-step _ _ _ _ _ _ (turn .loop .inv) _ (named .before .loop-test .taken) (named .plane-index .ensures) _ (made .slice-at .ensures .0) _ (checked .check-slice .ensures) (search needs)
+    slice-step
+    (record {
+      known = turn .loop .inv;
+      within = named .before .loop-test .taken;
+      plane-is = named .plane-index .ensures;
+      record-is = made .slice-at .ensures .0;
+      answer-is = checked .check-slice .ensures;
+      passed = search needs;
+    })
 
 -- src/lib.rt:85:29
 enum-known-r : tie.Need-enum-known-r Inv-loop μ-loop

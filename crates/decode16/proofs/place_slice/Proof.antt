@@ -1,4 +1,3 @@
-use mathlib.Core.Path.{refl}
 use Rattle.picture.proofs.Placing.{rows-in, elements-fit, end-fits, plane-scaled, plane-four, table-scaled, table-starts, table-ends, part-in, slice-ready, part-rowed, words-ready, deep-most, answer-at, part-put}
 use borrow.Author.Needs.{needs}
 use Rattle.decode16.proofs.place_slice.Statement.{statement}
@@ -84,11 +83,25 @@ returns : tie.Need-returns
 returns c =
     let read = c .before .before in
     let lent = read .before .before .before in
-    let stretched = lent .before .before .before .before in
-    let entry = stretched .before .before .before .before in
+    let copied = lent .before .before in
+    let stretched = copied .before .before in
+    let given = stretched .before .before in
+    let entry = given .before .before in
     let asked = entry .pre in (
       search answer-at,
-      λ e. part-put _ _ _ _ _ (asked .0) _ _ (asked .1 .0 .0) (asked .1 .1 .0) _ (stretched .stretch-of .ensures .0) (asked .1 .0 .1) _ _ _ refl refl refl _ _ _ (asked .1 .1 .1 .0) (search needs) (read .slice .ensures .1 .0) e,
+      λ e.
+          part-put
+          (record {
+            ready = asked .0;
+            record-is = asked .1 .0 .0;
+            below = asked .1 .0 .1;
+            placed = asked .1 .1 .0;
+            stretch-is = stretched .stretch-of .ensures .0;
+            long = asked .1 .1 .1 .0;
+            kept = search needs;
+            samples-are = read .slice .ensures .1 .0;
+            done = e;
+          }),
     )
 
 pub place-slice-spec : {M : Type 1} → statement M

@@ -78,7 +78,18 @@ loop-again c =
     let counted = turn .before in
     let lent = counted .before .before in
     let entry = lent .before .before in (
-      reading-step _ _ _ _ _ _ _ (turn .loop .inv .0) _ (tested .loop-test .taken) (named .plane-index .ensures) _ (made .slice-at .ensures .0) _ (placed .place-slice .ensures .0) (entry .pre .0 .sound) _ (search needs) (placed .place-slice .ensures .1) (search needs),
+      reading-step
+          (record {
+            sound = entry .pre .0 .sound;
+            known = turn .loop .inv .0;
+            within = tested .loop-test .taken;
+            plane-is = named .plane-index .ensures;
+            record-is = made .slice-at .ensures .0;
+            answer-is = placed .place-slice .ensures .0;
+            done = search needs;
+            rows-are = placed .place-slice .ensures .1;
+            kept = search needs;
+          }),
       search needs,
     )
 

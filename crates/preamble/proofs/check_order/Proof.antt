@@ -1,6 +1,6 @@
 -- `preamble::check_order` meets its contract: the loop counts the slices of each plane, and stops at the first that has no room (document 01, "Layout" and "Refusal numbers"). Assumes nothing.
 use Prim.Native.Nat.{_-_}
-use Rattle.preamble.proofs.Walking.{Walk, walks, walk-all-there}
+use Rattle.preamble.proofs.Walking.{Walk, walks, walk-full}
 use borrow.Author.Needs.{needs}
 use Rattle.preamble.proofs.check_order.Statement.{statement}
 use Rattle.preamble.proofs.check_order.Tie as tie
@@ -48,7 +48,14 @@ returns-2 : tie.Need-returns-2 Inv-loop μ-loop
 returns-2 c =
     let plane = c .before .before in
     let turn = plane .before .before in
-    walk-all-there _ _ _ _ _ _ _ (turn .loop .inv) _ (plane .before .loop-test .taken) (plane .plane-index .ensures) (c .before .if1 .left) (c .if2 .taken)
+    walk-full
+    (record {
+      known = turn .loop .inv;
+      within = plane .before .loop-test .taken;
+      plane-is = plane .plane-index .ensures;
+      plane-below = c .before .if1 .left;
+      all = c .if2 .taken;
+    })
 
 -- src/lib.rt:69:19
 mul-seen : tie.Need-mul-seen Inv-loop μ-loop

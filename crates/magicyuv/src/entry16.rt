@@ -1,10 +1,9 @@
-// The host's boundary at depths 10, 12 and 14, whose samples are 16-bit: as in lib.rt, numbers and slices in and a Reply out, proved to
-// say just the answer of document 01's entry.
-
+// The host's boundary at depths 10, 12 and 14: numbers and slices in and a Reply out, proved to say just the answer of document 01's entry. Its samples are
+// 16-bit; entry8.rt is the same for depth 8.
 use crate::Reply;
 use scope::Answer;
+use scope::Geometry;
 use scope::Place;
-ghost use mathlib.Core.Path.{_≡_};
 ghost use mathlib.Core.Bool.{true};
 ghost use Rattle.magicyuv.specs.Boundary.{numbers, Hosted};
 
@@ -32,16 +31,17 @@ pub extern "C" fn magicyuv_decode16(
     if 1 < interlaced {
         return crate::reply_of(Answer::Refused(1, Place::Nothing)); // neither interlaced nor not
     }
-    let g = crate::geometry(
-        width,
-        height,
-        slice_height,
-        family,
-        sx,
-        sy,
-        depth,
-        interlaced,
-    );
+    let named = crate::family(family);
+    let g = Geometry {
+        width: width as usize,
+        height: height as usize,
+        slice_height: slice_height as usize,
+        family: named,
+        sx: sx as usize,
+        sy: sy as usize,
+        depth: depth as usize,
+        interlaced: interlaced == 1,
+    };
     let decoded = decode16::decode16(frame, g, lengths, planes, workspace);
     crate::reply_of(decoded)
 }

@@ -2,6 +2,7 @@
 """docs.py: holds README.md, docs/ and host/*.md to what is there.
 
 - Every path that begins with crates/, docs/, host/ or tools/ exists; on a page of host/ also every path that begins with a folder of host/.
+- Every file of the sources, proofs and tools that is named without its path is there under some path.
 - Every word crate/edit is an edit of that crate, every crate::function a function of it, and every crate or package that a command names is there.
 - Every name in backquotes stands in a source, a specification, a proof, a tool or the host's Rust.
 - The numbers of crates, of edits and of public functions are today's, and README.md's output of demo is what crates/demo/stdout has.
@@ -61,6 +62,11 @@ def paths(page, text):
     return [f"no {p}" for p in missing]
 
 
+def files(text, there):
+    """Names of source files, wherever they stand."""
+    return [f"no file {n}" for n in re.findall(r"(?<![\w.-])([\w-]+\.(?:rt|antt|py|rs|sh|c|edit))\b", text) if n not in there]
+
+
 def edits(text):
     there = {f"{p.parts[-3]}/{p.stem}" for p in (ROOT / "crates").glob("*/must-fail/*.edit")}
     words = re.findall(r"(?<![\w./-])([a-z0-9]+/[a-z0-9_]+)(?![\w./-])", text)
@@ -105,11 +111,12 @@ def shown(text):
 
 def main():
     wrong, words = [], known()
+    there = {p.name for folder in ("crates", "host", "tools") for p in (ROOT / folder).rglob("*")}
     for page in pages():
         text = page.read_text()
         found = paths(page, text)
         if "landings" not in page.parts:
-            found += edits(text) + names(text, words) + commands(text) + numbers(text)
+            found += files(text, there) + edits(text) + names(text, words) + commands(text) + numbers(text)
         if page.name == "README.md" and page.parent == ROOT:
             found += shown(text)
         wrong += [f"{page.relative_to(ROOT)}: {what}" for what in found]

@@ -1,100 +1,128 @@
 #!/usr/bin/env python3
-"""red.py: the tables of docs/RED.md, from the edits of crates/*/must-fail and the logs that the last `rt ci` or `rt must-fail`
-left in target/must-fail. One row an edit: what it changes, and the first thing that the prover then says.
+"""red.py: every must-fail edit, and what the prover says of it. From the edits of crates/*/must-fail and the logs that the last `rt ci` or
+`rt must-fail` left in target/must-fail. A row an edit: its whole line before and after, and the first error of its log, none of it cut.
+
 Usage, at the repository's root, after the gate:
-  python3 tools/red.py              prints the tables
-  python3 tools/red.py --write      puts them into docs/RED.md in place of those that stand there
-  python3 tools/red.py --functions  prints, for each public function, the edits that stand in its own text
-What is said begins with WRONG REASON where an edit changed the code's shape and shows nothing: such an edit must be mended."""
-import glob, os, re, sys
+  python3 tools/red.py                prints the tables, crate by crate, as Markdown
+  python3 tools/red.py --functions    prints, for each public function, the edits that stand in its own text
+A crate's name after either keeps it to that crate.
 
-def fields(path):
-    out = {}
-    for line in open(path):
-        for key in ("file", "old", "new"):
-            if line.startswith(key + ": "):
-                out[key] = line[len(key) + 2:].rstrip("\n")
-    return out
+Every log is read to its end. A row says WRONG REASON where the first error is that the code no longer has the shape of its proof: such an
+edit shows nothing and must be mended. Where a later error says that, the row says so behind the first. Status 1 if a row has the wrong
+reason, or if an edit's old text does not stand exactly once in its file.
+"""
+import re
+import sys
+from pathlib import Path
 
-def cell(text):
-    return text.replace("|", "\\|")
+ROOT = Path(__file__).resolve().parent.parent
+ONLY = [a for a in sys.argv[1:] if not a.startswith("-")]
+ERROR = re.compile(r"/(?:proofs|specs|src)/(\S+?):\d+:\d+: error: (.*)")
+ALONE = re.compile(r"fn \w+::(\S+): no proof: .*?`search` does not close (`[^`]+`)")
 
-def changed(old, new):
-    """The part of a line that the edit changes, with a little of what stands around it."""
-    a = os.path.commonprefix([old, new])
-    b = os.path.commonprefix([old[len(a):][::-1], new[len(a):][::-1]])[::-1]
-    start = max(0, a.rfind(" ", 0, max(0, len(a) - 12)) + 1)
-    end = b[:b.find(" ", 12) if b.find(" ", 12) > 0 else len(b)]
-    return (a[start:] + old[len(a):len(old) - len(b)] + end)[:90], (a[start:] + new[len(a):len(new) - len(b)] + end)[:90]
+
+def crates():
+    lines = (ROOT / "crates.txt").read_text().splitlines()
+    names = [line.split(":")[0] for line in lines if ":" in line and not line.startswith("#")]
+    return [n for n in names if not ONLY or n in ONLY]
+
+
+def edits(crate):
+    """Each edit of a crate: its name, and its file, old and new text."""
+    found = []
+    for path in sorted((ROOT / "crates" / crate / "must-fail").glob("*.edit")):
+        fields = dict(line.split(": ", 1) for line in path.read_text().splitlines() if ": " in line)
+        found.append((path.stem, fields["file"], fields["old"], fields["new"]))
+    return found
+
+
+def stands(crate, file, old):
+    """How often an edit's old text stands in its file."""
+    return (ROOT / "crates" / crate / file).read_text().count(old)
+
+
+# ---- what the prover says
+
+
+def errors(log):
+    """The errors of a log, in its order: the file, without the name that every proof file has, and the words."""
+    found = []
+    for line in log.splitlines():
+        m = ERROR.search(line)
+        if m:
+            words = re.sub(r"`search`: no proof of.*", "`search` finds no proof", m.group(2))
+            found.append((re.sub(r"/Proof\.antt$", "", m.group(1)), words))
+    return found
+
 
 def said(crate, label):
-    log = f"target/must-fail/{crate}/{label}/.log"
-    if not os.path.exists(log):
+    """What a log says first, and whether anything in it says that the code's shape changed."""
+    path = ROOT / "target/must-fail" / crate / label / ".log"
+    if not path.exists():
         return "(no log)"
-    text = open(log, errors="replace").read()
-    # A function without a proof file: its callers' files are named first, and the line that matters is the function's own.
-    alone = re.search(r"fn \w+::(\S+): no proof: .*?`search` does not close (`[^`]+`)", text)
-    for line in text.splitlines():
-        # An edit that only makes the proof file unfit for the code shows nothing: say so, and never cut it away.
-        if "error" in line and "has no `Need" in line:
-            return "WRONG REASON: the edit changed the code's shape"
-        m = re.search(r"/(proofs|specs|src)/(\S+?):(\d+):\d+: error: (.*)", line)
-        if m and alone and "was not admitted" in m.group(4):
-            break
-        if m:
-            where = re.sub(r"/Proof\.antt$", "", m.group(2))
-            words = re.sub(r"`search`: no proof of.*", "`search` finds no proof", m.group(4))
-            words = re.sub(r"(does not follow from what it read).*", r"\1", words)
-            return f"{where}: {words[:110]}"
-    if alone:
-        return f"{alone.group(1)}: {alone.group(2)}: `search` finds no proof"
-    return "refused, and the log says no reason"
+    log = path.read_text(errors="replace")
+    found = errors(log)
+    shape = ["has no `Need" in words for _, words in found]
+    alone = ALONE.search(log)
+    if shape and shape[0]:
+        return f"WRONG REASON: {found[0][0]}: {found[0][1]}"
+    # Of a function without a proof file its callers' files are named first; the line that matters is the function's own.
+    if alone and (not found or "was not admitted" in found[0][1]):
+        first = f"{alone.group(1)}: {alone.group(2)}: `search` finds no proof"
+    elif found:
+        first = f"{found[0][0]}: {found[0][1]}"
+    else:
+        return "refused, and the log says no reason"
+    return first + (" (and further down that the code's shape changed)" if any(shape) else "")
+
+
+# ---- the tables
+
+
+def cell(text):
+    return text.strip().replace("|", "\\|")
+
+
+def tables():
+    """The tables, and whether every edit is as it should be."""
+    fine = True
+    for crate in crates():
+        rows = edits(crate)
+        if rows:
+            print(f"\n### `{crate}`\n\n| Edit | In | Was | Becomes | First thing said |\n|---|---|---|---|---|")
+        for label, file, old, new in rows:
+            words = said(crate, label)
+            times = stands(crate, file, old)
+            if times != 1:
+                words = f"STALE: its old text stands {times} times; {words}"
+            fine = fine and not words.startswith(("STALE", "WRONG"))
+            print(f"| {label} | {file} | `{cell(old)}` | `{cell(new)}` | {cell(words)} |")
+    return fine
+
 
 def functions(path):
-    """Every function of a source file: name, whether it is public, first and last line."""
-    lines, out = open(path).read().splitlines(), []
+    """Every function of a source: its name, whether it is public, its first and its last line."""
+    lines, found = path.read_text().splitlines(), []
     for n, line in enumerate(lines):
         m = re.match(r"(pub )?(?:extern \"C\" )?fn (\w+)", line)
         if m:
             end = next((k for k in range(n, len(lines)) if lines[k] == "}"), len(lines))
-            out.append((m.group(2), bool(m.group(1)), n, end))
-    return out
+            found.append((m.group(2), bool(m.group(1)), n, end))
+    return found
 
-def within(crate):
-    """The edits that stand in the text of each function of a crate, contract and body."""
-    out = {}
-    for path in sorted(glob.glob(f"crates/{crate}/src/**/*.rt", recursive=True)):
-        text = open(path).read()
-        for name, public, start, end in functions(path):
-            out[name] = (public, [])
-            for edit in sorted(glob.glob(f"crates/{crate}/must-fail/*.edit")):
-                f = fields(edit)
-                line = text[:max(0, text.find(f["old"]))].count("\n")
-                if f"crates/{crate}/{f['file']}" == path and start <= line <= end:
-                    out[name][1].append(os.path.basename(edit)[:-5])
-    return out
 
-def tables(order):
-    out = []
-    for crate in order:
-        edits = sorted(glob.glob(f"crates/{crate}/must-fail/*.edit"))
-        if not edits:
-            continue
-        out.append(f"\n### `{crate}`\n\n| Edit | In | Was | Becomes | First thing said |\n|---|---|---|---|---|")
-        for path in edits:
-            f, label = fields(path), os.path.basename(path)[:-5]
-            was, now = changed(f["old"].strip(), f["new"].strip())
-            out.append(f"| {label} | {f['file']} | `{cell(was)}` | `{cell(now)}` | {cell(said(crate, label))} |")
-    return "\n".join(out) + "\n"
+def by_function():
+    """The edits that stand in the text of each public function, contract and body."""
+    for crate in crates():
+        for path in sorted((ROOT / "crates" / crate / "src").rglob("*.rt")):
+            text = path.read_text()
+            own = [(label, text[: text.find(old)].count("\n")) for label, file, old, _ in edits(crate)
+                   if ROOT / "crates" / crate / file == path and old in text]
+            for name, public, start, end in functions(path):
+                inside = [label for label, line in own if start <= line <= end]
+                if public:
+                    print(f"{len(inside)} {crate}::{name}: {', '.join(inside)}")
+    return True
 
-order = [l.split(":")[0] for l in open("crates.txt") if ":" in l and not l.startswith("#")]
-if "--functions" in sys.argv:
-    for crate in order:
-        for name, (public, edits) in within(crate).items():
-            if public:
-                print(f"{len(edits)} {crate}::{name}: {', '.join(edits)}")
-elif "--write" in sys.argv:
-    page = open("docs/RED.md").read()
-    open("docs/RED.md", "w").write(page[:page.index("\n### `")] + tables(order))
-else:
-    print(tables(order), end="")
+
+sys.exit(0 if (by_function() if "--functions" in sys.argv else tables()) else 1)

@@ -67,8 +67,8 @@ def both(edit):
 
 
 # The call that reads a slice into its place; the calls that clear the planes; the lines that set the planes first.
-WRITES_NOTHING = both(lambda file, n: cut(file, r"\bslice::slice_u%d\([^;]*?\n    \)" % n, "Answer::Done"))
-NO_CLEARING = both(lambda file, n: cut(file, r"\bmemory::clear_u%d\([^)]*\);" % n, ""))
+WRITES_NOTHING = both(lambda file, n: cut(file, r"\bslice%d::slice\([^;]*?\n    \)" % n, "Answer::Done"))
+NO_CLEARING = both(lambda file, n: cut(file, r"\bbuffer%d::clear_planes\([^)]*\);" % n, ""))
 HOLDS_THE_ANSWER = [
     swap("crates/cases/src/lib.rt", "after[i] ^ flip", "after[i]"),
     swap("crates/cases/src/lib.rt", "after[2 * i] ^ flip, after[2 * i + 1] ^ flip", "after[2 * i], after[2 * i + 1]"),

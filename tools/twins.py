@@ -1,13 +1,16 @@
 #!/usr/bin/env python3
-"""Twin crates: the 16-bit crate is the 8-bit crate's text under the substitutions of tools/twins.txt, in their order.
+"""twins.py: what differs only in the width of a sample stands twice, in twin crates NAME8 and NAME16 or twin files, and the 16-bit text is the
+8-bit text under the substitutions of tools/twins.txt, in their order. So a reader reads one.
 
-A line is `8-bit text => 16-bit text`; `\\n` stands for a line's end. At 16 bits the checker asks one need more for each element that is
-read or stored, its place times two: those lines are substitutions too.
+In tools/twins.txt a line `# crates NAME8 NAME16` or `# files PATH8 PATH16` begins a list (lists one after another share what follows them), and
+each line `8-bit text => 16-bit text` is one substitution; \\n stands for a line's end. At 16 bits the checker asks one need more for each
+element that is read, stored or lent (its place times two): those lines are substitutions too. Must-fail edits are not compared: a telling edit
+need not stand at both widths.
 
-twins.py check          says which files differ from what the substitutions give (exit 1 if any does)
-twins.py write NAME8    writes the twin of NAME8
-
-A \\n in a substitution is a new line: an element of 16 bits has one need more, that twice its place fits 64 bits.
+Usage, at the repository's root:
+  python3 tools/twins.py            says which files are not what the substitutions give; status 1 if any is not
+  python3 tools/twins.py write      writes every 16-bit file
+  python3 tools/twins.py write X    writes those of the list whose 8-bit name is X
 """
 import pathlib
 import sys
@@ -15,48 +18,57 @@ import sys
 ROOT = pathlib.Path(__file__).resolve().parent.parent
 
 
-def pairs():
-    found = []
+def lists():
+    """The lists of tools/twins.txt: the pairs of paths, and the substitutions that make the second of each out of the first."""
+    found, open_list = [], False
     for line in (ROOT / "tools/twins.txt").read_text().splitlines():
-        if line.startswith("# crates "):
-            found.append((*line.split()[2:4], []))
+        words = line.split()
+        if line.startswith(("# crates ", "# files ")):
+            if not open_list:
+                found.append(([], []))
+                open_list = True
+            prefix = "crates/" if words[1] == "crates" else ""
+            found[-1][0].append((prefix + words[2], prefix + words[3]))
         elif " => " in line:
-            found[-1][2].append([side.replace("\\n", "\n") for side in line.split(" => ")])
+            open_list = False
+            found[-1][1].append([side.replace("\\n", "\n") for side in line.split(" => ")])
     return found
 
 
-def files(base):
-    """Every file of a crate but its must-fail edits: a telling edit need not stand at both widths."""
-    return [p for p in base.rglob("*") if p.is_file() and p.parent.name != "must-fail"]
+def texts(path):
+    """Every file at a path, but must-fail edits, by its name there."""
+    base = ROOT / path
+    files = [base] if base.is_file() else [p for p in base.rglob("*") if p.is_file() and p.parent.name != "must-fail"]
+    return {"" if p == base else str(p.relative_to(base)): p.read_text() for p in files}
 
 
 def made(narrow, substitutions):
-    base = ROOT / "crates" / narrow
-    texts = {}
-    for path in sorted(files(base)):
-        name, text = str(path.relative_to(base)), path.read_text()
+    """What the substitutions make of them."""
+    out = {}
+    for name, text in texts(narrow).items():
         for old, new in substitutions:
             name, text = name.replace(old, new), text.replace(old, new)
-        texts[name] = text
-    return texts
+        out[name] = text
+    return out
 
 
 def main():
-    bad = 0
-    for narrow, wide, substitutions in pairs():
-        base = ROOT / "crates" / wide
-        texts = made(narrow, substitutions)
-        if sys.argv[1] == "write" and sys.argv[2] == narrow:
-            for name, text in texts.items():
-                (base / name).parent.mkdir(parents=True, exist_ok=True)
-                (base / name).write_text(text)
-        elif sys.argv[1] == "check":
-            there = {str(p.relative_to(base)): p.read_text() for p in files(base)}
-            for name in sorted(set(there) | set(texts)):
-                if there.get(name) != texts.get(name):
-                    print(f"{wide}/{name} is not {narrow}'s text")
-                    bad = 1
-    sys.exit(bad)
+    write, only = sys.argv[1:2] == ["write"], sys.argv[2:3]
+    wrong = []
+    for pairs, substitutions in lists():
+        for narrow, wide in pairs:
+            if only and only[0] not in (narrow, narrow.removeprefix("crates/")):
+                continue
+            want = made(narrow, substitutions)
+            if write:
+                for name, text in want.items():
+                    path = ROOT / wide / name if name else ROOT / wide
+                    path.parent.mkdir(parents=True, exist_ok=True)
+                    path.write_text(text)
+            there = texts(wide)
+            wrong += [f"{wide}/{n} is not {narrow}'s text" for n in sorted(set(there) | set(want)) if there.get(n) != want.get(n)]
+    print("\n".join(wrong) or "every twin is the other's text")
+    sys.exit(1 if wrong else 0)
 
 
 main()

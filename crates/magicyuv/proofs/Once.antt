@@ -9,10 +9,10 @@ use denote.Ref.{now}
 use Rattle.scope.specs.declared.Answer.{Answer}
 use Rattle.magicyuv.specs.Boundary.{Says}
 use Rattle.magicyuv.specs.declared.Reply.{Reply}
-use Rattle.magicyuv.proofs.magicyuv_decode8 as decode8
-use Rattle.magicyuv.proofs.magicyuv_decode8.Reads as decode8-reads
-use Rattle.magicyuv.proofs.deep.magicyuv_decode16 as decode16
-use Rattle.magicyuv.proofs.deep.magicyuv_decode16.Reads as decode16-reads
+use Rattle.magicyuv.proofs.entry8.magicyuv_decode8 as decode8
+use Rattle.magicyuv.proofs.entry8.magicyuv_decode8.Reads as decode8-reads
+use Rattle.magicyuv.proofs.entry16.magicyuv_decode16 as decode16
+use Rattle.magicyuv.proofs.entry16.magicyuv_decode16.Reads as decode16-reads
 use Rattle.magicyuv.proofs.magicyuv_build as build
 use Rattle.magicyuv.proofs.magicyuv_build.Reads as build-reads
 use Rattle.magicyuv.proofs.magicyuv_read as read

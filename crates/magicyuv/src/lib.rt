@@ -1,20 +1,21 @@
 // The host's boundary: the product's functions as extern "C", on numbers and slices. An enum cannot cross it, so a Reply of three
 // numbers stands in for the answer; each function is proved to reply just the answer's number and place.
-// deep.rt has the entry for depths 10, 12 and 14.
+// entry8.rt has the frame entry for depth 8, entry16.rt the one for depths 10, 12 and 14.
 
-mod deep;
+mod entry16;
+mod entry8;
 
-pub use deep::magicyuv_decode16;
+pub use entry8::magicyuv_decode8;
+pub use entry16::magicyuv_decode16;
 use scope::Answer;
 use scope::Family;
-use scope::Geometry;
 use scope::Place;
 ghost use mathlib.Core.Path.{_≡_};
 ghost use mathlib.Core.Bool.{true, false};
 ghost use Prim.Native.Nat.{_<_, _≤_};
 ghost use lib.Dec.{eqb};
 ghost use Rattle.scope.specs.Refusals.{placeOf, placeNumber};
-ghost use Rattle.magicyuv.specs.Boundary.{familyOf, geometryOf, numbers, Says, Hosted, BuiltFor, ReadFor};
+ghost use Rattle.magicyuv.specs.Boundary.{familyOf, Says, BuiltFor, ReadFor};
 
 // 0 for planes, or the refusal's number; 0 nothing, 1 a slice, 2 a plane; and which one.
 #[repr(C)]
@@ -71,70 +72,6 @@ fn family(n: u32) -> Family
         return Family::Rgba;
     }
     Family::Yuva
-}
-
-// The geometry that eight numbers say, where the family's and the last are known to be in range.
-fn geometry(
-    width: u32,
-    height: u32,
-    slice_height: u32,
-    family_number: u32,
-    sx: u32,
-    sy: u32,
-    depth: u32,
-    interlaced: u32,
-) -> Geometry
-    ensures { λ r. ⌜ r ≡ geometryOf (numbers width height «slice_height» «family_number» sx sy depth interlaced) ⌝ }
-{
-    let f = family(family_number);
-    Geometry {
-        width: width as usize,
-        height: height as usize,
-        slice_height: slice_height as usize,
-        family: f,
-        sx: sx as usize,
-        sy: sy as usize,
-        depth: depth as usize,
-        interlaced: interlaced == 1,
-    }
-}
-
-// Document 01's entry for depth 8.
-#[no_mangle]
-pub extern "C" fn magicyuv_decode8(
-    frame: &[u8],
-    lengths: &[u8],
-    planes: &mut [u8],
-    workspace: &mut [u32],
-    width: u32,
-    height: u32,
-    slice_height: u32,
-    family: u32,
-    sx: u32,
-    sy: u32,
-    depth: u32,
-    interlaced: u32,
-) -> Reply
-    ensures { λ r. ⌜ Hosted false (now (frame .entry)) (numbers width height «slice_height» family sx sy depth interlaced) (now (lengths .entry)) (now (planes .entry)) (now (workspace .entry)) r (now (planes .exit)) (now (workspace .exit)) ⌝ }
-{
-    if 4 < family {
-        return reply_of(Answer::Refused(1, Place::Nothing)); // no such family
-    }
-    if 1 < interlaced {
-        return reply_of(Answer::Refused(1, Place::Nothing)); // neither interlaced nor not
-    }
-    let g = geometry(
-        width,
-        height,
-        slice_height,
-        family,
-        sx,
-        sy,
-        depth,
-        interlaced,
-    );
-    let decoded = decode8::decode8(frame, g, lengths, planes, workspace);
-    reply_of(decoded)
 }
 
 // A table built by itself.

@@ -5,6 +5,7 @@
 // Each case is decoded into memory that crate cases lends, which holds something else than it must hold afterwards, and judged by
 // it. A line says which case came out wrong and in what; the last line counts.
 use cases::Case;
+use cases::Shape;
 use cases::Told;
 use cases::Verdict;
 ghost use mathlib.Core.Path.{_≡_};
@@ -174,13 +175,62 @@ fn lend16(c: Case, after: &[u8], frame: &[u8], lengths: &[u8]) -> Verdict {
     )
 }
 
-// By the entry that the case names.
+// Whether the entry for the other depths refuses a case of depth 8 by 1.
+fn refused16(g: Shape, frame: &[u8], lengths: &[u8]) -> bool {
+    let mut planes = [0u16; 4];
+    let mut words = [0u32; 4];
+    let r = magicyuv::magicyuv_decode16(
+        frame,
+        lengths,
+        &mut planes,
+        &mut words,
+        g.width,
+        g.height,
+        g.slice_height,
+        g.family,
+        g.sx,
+        g.sy,
+        8,
+        g.interlaced,
+    );
+    r.number == 1
+}
+
+// Whether the entry for depth 8 refuses a case of depth 10 by 1.
+fn refused8(g: Shape, frame: &[u8], lengths: &[u8]) -> bool {
+    let mut planes = [0u8; 4];
+    let mut words = [0u32; 4];
+    let r = magicyuv::magicyuv_decode8(
+        frame,
+        lengths,
+        &mut planes,
+        &mut words,
+        g.width,
+        g.height,
+        g.slice_height,
+        g.family,
+        g.sx,
+        g.sy,
+        10,
+        g.interlaced,
+    );
+    r.number == 1
+}
+
+// By the entry that the case names. The other one must refuse it by 1, since no depth is served by both.
 fn replay_entry(c: Case, after: &[u8], frame: &[u8], lengths: &[u8]) -> Verdict {
+    let g = c.shape;
     if c.entry == 8 {
-        return lend8(c, after, frame, lengths);
+        if refused16(g, frame, lengths) {
+            return lend8(c, after, frame, lengths);
+        }
+        return Verdict::Number;
     }
     if c.entry == 16 {
-        return lend16(c, after, frame, lengths);
+        if refused8(g, frame, lengths) {
+            return lend16(c, after, frame, lengths);
+        }
+        return Verdict::Number;
     }
     Verdict::Form
 }

@@ -1,17 +1,15 @@
 -- The exported frame entries: numbers out of range are refusal 1, and the others get the entry's own answer.
-use mathlib.Core.Path.{_≡_, refl, sym, ap, _∙_}
+use mathlib.Core.Path.{_≡_, refl, ap, _∙_}
 use Prim.Native.Nat.{ℕ, _≤_, _<_}
 use mathlib.Core.Bool.{Bool, true, false, not, _&&_}
 use mathlib.Core.List.{List}
 use native.Mathlib.Omega.{arith}
-use borrow.Author.Needs.{needs}
 use borrow.Author.Tests.{le-leb, lt-leb}
 use lib.Dec.{eqb, leb, ltb}
 use lib.ListN.{length}
 use Rattle.scope.specs.Refusals.{placeOf, placeNumber, refuseIf, _andThen_, leftBy}
-use Rattle.scope.specs.Geometry.{sliceCount}
 use Rattle.scope.specs.Frame as frm
-use Rattle.scope.specs.Frame.{lentChecks, answerOf, planesAfter, workspaceAfter, Decoded}
+use Rattle.scope.specs.Frame.{answerOf, planesAfter, workspaceAfter, Decoded}
 use Rattle.scope.specs.declared.Family.{Family}
 use Rattle.scope.specs.declared.Geometry.{Geometry}
 use Rattle.scope.specs.declared.Place.{Place}

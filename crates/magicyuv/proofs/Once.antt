@@ -1,6 +1,6 @@
 -- Any two outcomes that the statement of an exported function allows are equal: reply and lent memory. `Post` is the plain reading that
 -- Rattle itself makes of the `ensures` clauses of src/. Document 01, "What every public statement settles".
-use mathlib.Core.Path.{_≡_, refl, sym, ap, _∙_}
+use mathlib.Core.Path.{_≡_, sym, ap, _∙_}
 use Prim.Native.Nat.{ℕ}
 use contract.Lifetimes.{Lfts}
 use borrow.Fn.World.{ArgsD, ResD}

@@ -1,12 +1,11 @@
 -- What a reply says of an answer, case by case, and the families by their numbers.
-use mathlib.Core.Path.{_≡_, refl, sym, ap, _∙_}
-use Prim.Native.Nat.{ℕ, zero, suc, _≤_, _<_}
+use mathlib.Core.Path.{_≡_, refl}
+use Prim.Native.Nat.{ℕ, zero, suc, _<_}
 use native.Mathlib.Omega.{arith}
 use mir.Syntax.{w32}
 use mir.Val.{Fits}
 use borrow.Author.Needs.{needs}
-use Rattle.scope.specs.Refusals.{numberOf, placeOf, kindNumber, placeNumber}
-use Rattle.scope.specs.declared.Family.{Family}
+use Rattle.scope.specs.Refusals.{placeOf, placeNumber}
 use Rattle.scope.specs.declared.Family.the-variants.{Gray, Rgb, Yuv, Rgba, Yuva}
 use Rattle.scope.specs.declared.Place.{Place}
 use Rattle.scope.specs.declared.Place.the-variants.{Slice, Plane, Nothing}

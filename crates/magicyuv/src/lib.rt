@@ -11,9 +11,7 @@ use scope::Answer;
 use scope::Family;
 use scope::Place;
 ghost use mathlib.Core.Path.{_≡_};
-ghost use mathlib.Core.Bool.{true, false};
-ghost use Prim.Native.Nat.{_<_, _≤_};
-ghost use lib.Dec.{eqb};
+ghost use Prim.Native.Nat.{_<_};
 ghost use Rattle.scope.specs.Refusals.{placeOf, placeNumber};
 ghost use Rattle.magicyuv.specs.Boundary.{familyOf, Says, BuiltFor, ReadFor};
 

@@ -6,15 +6,17 @@
 //! its streaming entry with its buffers kept; the figure has its header, its descriptors, its tables
 //! and its clearing of the planes in it. The two are run in turn; the least and the
 //! median are shown, since other work on the machine only adds.
+//!
+//! With `--once` and a frame, a width, a height and a slice height: ours alone, once, and no clock.
 #![forbid(unsafe_code)]
 
 mod pictures;
 
 use compare::draft::Draft;
-use magicyuv_host::model::predict::Predictor;
 use magicyuv_host::model::{needs, Model};
-use magicyuv_host::{backing, core, Answer, Backing, Core, Family};
+use magicyuv_host::{backing, core, Answer, Backing, Core};
 use oracle::decoder::{decode_into, DecodedFrame, Samples};
+use pictures::Size;
 use std::time::Instant;
 
 /// Runs of each side, enough that some of them meet a quiet moment of a busy machine.
@@ -113,7 +115,32 @@ fn machine() -> String {
     )
 }
 
-fn main() {
+/// Decodes one of the three frames once, at a size, with our side alone: for a tool that counts the
+/// instructions of `magicyuv_decode8` or `magicyuv_decode16`.
+fn once(numbers: &[String]) {
+    let numbers: Option<Vec<u32>> = numbers.iter().map(|word| word.parse().ok()).collect();
+    let Some([at @ 0..3, width, height, slice]) = numbers.as_deref() else {
+        panic!("--once, a frame from 0 to 2, a width, a height and a slice height");
+    };
+    let size = Size { width: *width, height: *height, slice: *slice };
+    let (name, draft) = &pictures::frames(&size)[*at as usize];
+    ours(core(), draft, &mut kept(draft));
+    let (samples, slices) = (draft.geometry.samples(), draft.slices.len());
+    println!("{name}, once: {samples} samples in {slices} slices");
+}
+
+/// The heading, for a number of runs.
+fn heading(runs: usize) {
+    let Size { width, height, slice } = pictures::TIMED;
+    println!("{width} by {height}, slice height {slice}; {runs} runs, nanoseconds a sample");
+    println!("{:<34}{:>6}{:>26}{:>26}", "", "", "least of all runs", "median of all runs");
+    print!("{:<34}{:>6}", "frame", "bits");
+    (0..2).for_each(|_| print!("{:>10}{:>9}{:>7}", "ours", "Rust", "ratio"));
+    println!();
+}
+
+/// Times all three frames.
+fn timed() {
     match backing() {
         Backing::Archive => println!("timing the archive against the customer's Rust"),
         Backing::Model => {
@@ -121,22 +148,22 @@ fn main() {
         }
     }
     println!("{}", machine());
-    let (w, h, s) = (pictures::WIDTH, pictures::HEIGHT, pictures::SLICE);
     let runs = if backing() == Backing::Model { 3 } else { RUNS };
-    println!("{w} by {h}, slice height {s}; {runs} runs, nanoseconds a sample");
-    println!("{:<34}{:>6}{:>26}{:>26}", "", "", "least of all runs", "median of all runs");
-    print!("{:<34}{:>6}", "frame", "bits");
-    (0..2).for_each(|_| print!("{:>10}{:>9}{:>7}", "ours", "Rust", "ratio"));
-    println!();
-    let gray = pictures::frame(Family::Gray, 1, 8, Predictor::Left, false);
-    one("Gray 8-bit coded with Left", &gray, runs);
-    let yuv = pictures::frame(Family::Yuv, 2, 10, Predictor::Median, false);
-    one("Yuv 2x1 10-bit coded with Median", &yuv, runs);
-    let rgb = pictures::frame(Family::Rgb, 1, 8, Predictor::Left, true);
-    one("Rgb 8-bit raw with Left", &rgb, runs);
+    heading(runs);
+    let frames = pictures::frames(&pictures::TIMED);
+    frames.iter().for_each(|(name, draft)| one(name, draft, runs));
     if backing() == Backing::Archive {
-        let mut kept = kept(&gray);
-        let time = ours(&Model, &gray, &mut kept) * 1e9 / gray.geometry.samples() as f64;
+        let gray = &frames[0].1;
+        let time = ours(&Model, gray, &mut kept(gray)) * 1e9 / gray.geometry.samples() as f64;
         println!("(the model on the first frame, one run: {time:.2})");
+    }
+}
+
+fn main() {
+    let words: Vec<String> = std::env::args().skip(1).collect();
+    match words.as_slice() {
+        [] => timed(),
+        [flag, numbers @ ..] if flag == "--once" => once(numbers),
+        _ => panic!("no words, or --once and four numbers"),
     }
 }

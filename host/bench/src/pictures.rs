@@ -9,12 +9,18 @@ use magicyuv_host::model::predict::Predictor;
 use magicyuv_host::model::words::Code;
 use magicyuv_host::{Family, Geometry};
 
-/// The picture's size and its slice height.
-pub const WIDTH: u32 = 1920;
-/// Rows.
-pub const HEIGHT: u32 = 1080;
-/// Rows of a slice.
-pub const SLICE: u32 = 108;
+/// A picture's size and its slice height.
+pub struct Size {
+    /// Columns.
+    pub width: u32,
+    /// Rows.
+    pub height: u32,
+    /// Rows of a slice.
+    pub slice: u32,
+}
+
+/// What is timed.
+pub const TIMED: Size = Size { width: 1920, height: 1080, slice: 108 };
 
 /// A plane of a smooth picture with noise of a few levels.
 fn plane(width: usize, height: usize, depth: u32, rng: &mut Rng) -> Vec<u16> {
@@ -70,7 +76,7 @@ fn packed(residues: &[u16], depth: u32) -> Vec<u8> {
 fn plane_slices(g: &Geometry, p: usize, kind: Predictor, raw: bool) -> (Vec<Slice>, Vec<u8>) {
     let (width, height) = g.plane_size(p);
     let samples = plane(width, height, g.depth, &mut Rng::of(14, p as u64));
-    let rows = SLICE as usize * height / HEIGHT as usize;
+    let rows = g.slice_height as usize * height / g.height as usize;
     let bands: Vec<Vec<u16>> =
         samples.chunks(rows * width).map(|b| residues(kind, b, width, g.depth)).collect();
     let n = 1usize << g.depth;
@@ -91,9 +97,9 @@ fn plane_slices(g: &Geometry, p: usize, kind: Predictor, raw: bool) -> (Vec<Slic
 }
 
 /// A frame of one predictor, all raw or all coded.
-pub fn frame(family: Family, sx: u32, depth: u32, kind: Predictor, raw: bool) -> Draft {
+fn frame(size: &Size, family: Family, sx: u32, depth: u32, kind: Predictor, raw: bool) -> Draft {
     let format = format(family, sx, 1, depth);
-    let geometry = geometry(&format, WIDTH, HEIGHT, SLICE);
+    let geometry = geometry(&format, size.width, size.height, size.slice);
     let (mut slices, mut lengths) = (Vec::new(), Vec::new());
     for p in 0..family.planes() {
         let (of_plane, plane_lengths) = plane_slices(&geometry, p, kind, raw);
@@ -102,4 +108,16 @@ pub fn frame(family: Family, sx: u32, depth: u32, kind: Predictor, raw: bool) ->
     }
     let order = plane_major(&geometry);
     Draft { format, geometry, lengths, order, slices, trailing: vec![], entry0: 0, shortest_run: 3 }
+}
+
+/// The three frames at a size, each with its name.
+pub fn frames(size: &Size) -> [(&'static str, Draft); 3] {
+    let gray = frame(size, Family::Gray, 1, 8, Predictor::Left, false);
+    let yuv = frame(size, Family::Yuv, 2, 10, Predictor::Median, false);
+    let rgb = frame(size, Family::Rgb, 1, 8, Predictor::Left, true);
+    [
+        ("Gray 8-bit coded with Left", gray),
+        ("Yuv 2x1 10-bit coded with Median", yuv),
+        ("Rgb 8-bit raw with Left", rgb),
+    ]
 }

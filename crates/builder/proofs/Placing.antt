@@ -1,6 +1,6 @@
 -- The loop that places the symbols' words, one pass over the lengths (document 01, "Words and lookup": "given to symbols in ascending
 -- order"). Assumes nothing.
-use mathlib.Core.Path.{_≡_, sym, ap, ap₂, _∙_, subst, subst₂}
+use mathlib.Core.Path.{_≡_, refl, sym, ap, ap₂, _∙_, subst, subst₂}
 use Prim.Native.Nat.{ℕ, suc, _+_, _-_, _*_, _/_, _%_, _^_, _≤_, _<_, min}
 use native.Mathlib.Nat.{zero-add, mul-le-mul-left}
 use native.Mathlib.Numerals.{add-one}
@@ -12,7 +12,7 @@ use mir.Val.{Fits}
 use lib.Dec.{eqb}
 use lib.Pow.{pow-pos}
 use lib.ListN.{length, take, getD, set, length-set}
-use lib.Seq.{getD-set-same, getD-set-other}
+use lib.Seq.{set-getD, getD-set-same, getD-set-other}
 use Rattle.scope.specs.Base.{one, count}
 use Rattle.scope.specs.Words.{longest, lengthOf, wordOf, first, heads}
 use Rattle.scope.specs.Lookup.{packed, wordIn}
@@ -22,7 +22,7 @@ use Rattle.lists.proofs.Powers.{shl-one}
 use Rattle.codes.proofs.Table.{slot-hit, slot-miss}
 use Rattle.words.specs.Weigh.{firstsOf}
 use Rattle.words.proofs.Walking.{firsts-at, firsts-length}
-use Rattle.builder.specs.Slots.{slotBits, slotBase, StretchWritten, WordSlots, Buildable, Slotted, WordsPlaced}
+use Rattle.builder.specs.Slots.{slotBits, slotBase, StretchWritten, WordSlots, SymbolAsked, SymbolPut, Buildable, Slotted, WordsPlaced}
 use Rattle.builder.proofs.Filling.{bits-first, base-first, bits-second, base-second}
 use Rattle.builder.proofs.Rows.{row-of, of-row, first-room, second-room, short-row, row, apart}
 
@@ -236,6 +236,42 @@ module _ (ls : List ℕ) (m : ℕ) (ws next : List ℕ) (s : ℕ) (p : WordsPlac
           words l a c (no e) =
               getD-set-other next (lengthOf ls s) l (getD next (lengthOf ls s) 0 + 1) 0 e
               ∙ omega (arith, p .words l a c, one-other (lengthOf ls s) l (λ (q : lengthOf ls s ≡ l). e (sym q)))
+
+-- ---- `place_symbol`
+
+module _ (m l s w : ℕ) (ws : List ℕ) where
+  -- no word
+  pub put-none : l ≡ 0 → SymbolPut m l s w ws w ws
+  put-none e = record { none = λ _. (refl, refl); next = λ z. absurd (z e); written = λ z. absurd (z e) }
+
+  -- a word
+  pub put-some : (ws′ : List ℕ) → (l ≡ 0 → ⊥) → StretchWritten ws (slotBase l + w * 2 ^ (slotBits m l - l)) (2 ^ (slotBits m l - l)) (s * 256 + l) ws′ → SymbolPut m l s w ws (w + 1) ws′
+  put-some ws′ z f = record { none = λ e. absurd (z e); next = λ _. refl; written = λ _. f }
+
+  module _ (n : ℕ) (a : SymbolAsked m l s w n) (z : l ≡ 0 → ⊥) where
+    pub asked-slots : WordSlots m l s w n
+    asked-slots = a .slots z
+
+    pub asked-more : Fits w32 (w + 1)
+    asked-more = record { fits = a .more z }
+
+-- ---- a turn of `place`
+
+module _ (ls : List ℕ) (m : ℕ) (ws next : List ℕ) (s : ℕ) (p : WordsPlaced ls m ws next s) (in-ls : s < length ls) where
+  pub symbol-asked : SymbolAsked m (lengthOf ls s) s (getD next (lengthOf ls s) 0) (length ws)
+  symbol-asked = record {
+    slots = λ z. placed-row ls m ws next s p in-ls z;
+    more = λ z. word-fits-32 ls m ws next s p in-ls z .fits;
+  }
+
+  pub placed-step : (r : ℕ) (ws′ : List ℕ) → SymbolPut m (lengthOf ls s) s (getD next (lengthOf ls s) 0) ws r ws′ → length ws′ ≡ length ws → WordsPlaced ls m ws′ (set next (lengthOf ls s) r) (s + 1)
+  placed-step r ws′ f len = go (ℕ-discrete (lengthOf ls s) 0)
+    where
+      go : Dec (lengthOf ls s ≡ 0) → WordsPlaced ls m ws′ (set next (lengthOf ls s) r) (s + 1)
+      go (yes e) =
+          let same : set next (lengthOf ls s) r ≡ next = ap (set next (lengthOf ls s)) (f .none e .0) ∙ set-getD next (lengthOf ls s) 0 in
+          rw (same, f .none e .1) (placed-skip ls m ws next s p in-ls e)
+      go (no z) = rw (f .next z) (placed-put ls m ws next s p in-ls z ws′ (f .written z) len)
 
 -- after all symbols
 pub placed-end : (ls : List ℕ) (m : ℕ) (ws next : List ℕ) (s : ℕ) → WordsPlaced ls m ws next s → length ls ≤ s → Slotted ls ws (length ls)

@@ -52,3 +52,14 @@ pub record WordsPlaced (ls : List ℕ) (m : ℕ) (ws next : List ℕ) (s : ℕ) 
   pub many : length next ≡ 19
   pub words : (l : ℕ) → 0 < l → l ≤ 18 → getD next l 0 ≡ first ls l + count l (take s ls)
   pub slotted : Slotted ls ws s
+
+-- what a symbol of length l that gets the word w asks, where it has one: its slots lie within n words, and w is not the last number
+pub record SymbolAsked (m l s w n : ℕ) : Type 0 where
+  pub slots : (l ≡ 0 → ⊥) → WordSlots m l s w n
+  pub more : (l ≡ 0 → ⊥) → w + 1 < 2 ^ 32
+
+-- what it leaves of ws, and the word r that the next symbol of its length gets
+pub record SymbolPut (m l s w : ℕ) (ws : List ℕ) (r : ℕ) (ws′ : List ℕ) : Type 0 where
+  pub none : l ≡ 0 → (r ≡ w) × (ws′ ≡ ws)
+  pub next : (l ≡ 0 → ⊥) → r ≡ w + 1
+  pub written : (l ≡ 0 → ⊥) → StretchWritten ws (slotBase l + w * 2 ^ (slotBits m l - l)) (2 ^ (slotBits m l - l)) (s * 256 + l) ws′

@@ -9,7 +9,7 @@ ghost use Rattle.scope.specs.Base.{replaced};
 ghost use Rattle.scope.specs.Words.{longest, shares, need};
 ghost use Rattle.scope.specs.Lookup.{tableOf};
 ghost use Rattle.words.specs.Weigh.{firstsOf};
-ghost use Rattle.builder.specs.Slots.{slotBits, slotBase, StretchWritten, WordSlots, Buildable, Slotted, WordsPlaced};
+ghost use Rattle.builder.specs.Slots.{slotBits, slotBase, StretchWritten, WordSlots, Buildable, Slotted, SymbolAsked, SymbolPut};
 
 // Writes e into n words of ws, from `from` on.
 pub(crate) fn fill(ws: &mut [u32], from: usize, n: usize, e: u32)
@@ -57,31 +57,16 @@ pub(crate) fn put(ws: &mut [u32], m: usize, l: usize, s: usize, w: u32)
     fill(ws, from, size, (s * 256 + l) as u32);
 }
 
-// The word that the next symbol of each length gets.
-pub(crate) struct NextWords {
-    at: [u32; 19],
-}
-
-// Writes symbol s's word, where it has one, and counts it.
-pub(crate) fn place_symbol(
-    lengths: &[u8],
-    s: usize,
-    next: NextWords,
-    m: usize,
-    ws: &mut [u32],
-) -> NextWords
-    requires { ⌜ WordsPlaced (now lengths) m (now ws) (next .at) s × (s < length (now lengths)) ⌝ }
-    ensures { λ r. ⌜ WordsPlaced (now (lengths .entry)) m (now (ws .exit)) (r .at) (s + 1) ⌝ }
+// Writes symbol s's word w, where it has one, and gives the word that the next symbol of its length gets.
+pub(crate) fn place_symbol(ws: &mut [u32], m: usize, l: usize, s: usize, w: u32) -> u32
+    requires { ⌜ SymbolAsked m l s w (length (now ws)) ⌝ }
+    ensures { λ r. ⌜ SymbolPut m l s w (now (ws .entry)) r (now (ws .exit)) ⌝ }
 {
-    let l = lengths[s] as usize;
     if l == 0 {
-        return next;
+        return w;
     }
-    let w = next.at[l];
     put(ws, m, l, s, w);
-    let mut after = next;
-    after.at[l] = w + 1;
-    after
+    w + 1
 }
 
 // Writes every symbol's word, in one pass over the lengths, m being the longest. `first` holds the first word of each length.
@@ -91,10 +76,12 @@ pub(crate) fn place(lengths: &[u8], first: [u32; 19], m: usize, ws: &mut [u32])
 {
     let all = ws.len();
     fill(ws, 0, all, 0);
-    let mut next = NextWords { at: first };
+    let mut next = first;
     let mut s: usize = 0;
     while s < lengths.len() {
-        next = place_symbol(lengths, s, next, m, ws);
+        let l = lengths[s] as usize;
+        let w = next[l];
+        next[l] = place_symbol(ws, m, l, s, w);
         s += 1;
     }
 }

@@ -10,11 +10,9 @@ use mathlib.Core.Logic.{inl, inr}
 use mathlib.Core.List.{List, [], _++_, append-nil}
 use mathlib.Core.Bool.{true, false, true≢false}
 use lib.ListN.{length, take, drop, getD, List·getD-append, take-append-drop}
-use lib.Seq.{take-take}
 use lib.Dec.{eqb}
 use lib.Pow.{pow-pos}
 use borrow.Author.Tests.{eq-eqb, ne-eqb, le-ltb, le-leb, lt-leb}
-use Rattle.scope.specs.Base.{part}
 use Rattle.scope.specs.Bits.{window}
 use Rattle.scope.specs.Words.{longest, first, wordOf, lengthOf, shares, headBelow, heads, need, beginsWith, wordBelow, wordAt, Begins}
 use Rattle.scope.specs.Lookup.{packed, unpacked, beginsIn, wordIn, firstPart, tableOf, lookupIn}
@@ -173,9 +171,3 @@ module _ (ls payload : List ℕ) (p : ℕ) (fits : longest ls ≤ 18) (full : sh
       ap (λ (t : List ℕ). lookupIn t (longest ls) payload p)
       (sym (take-append-drop (need ls) words) ∙ ap (λ (t : List ℕ). t ++ drop (need ls) words) e)
       ∙ looks-behind ls (drop (need ls) words) payload p fits full
-
-  -- over a part, of n words from `from` on, of a longer workspace in which the table stands from there on
-  pub looks-part : (workspace : List ℕ) (from n : ℕ) → need ls ≤ n → part workspace from (need ls) ≡ tableOf ls
-      → lookupIn (part workspace from n) (longest ls) payload p ≡ wordAt ls payload p
-  looks-part workspace from n h e =
-      looks-take (part workspace from n) (take-take (need ls) n (drop from workspace) h ∙ e)

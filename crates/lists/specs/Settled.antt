@@ -1,4 +1,5 @@
--- Document 01, "What every public statement settles": a statement allows one outcome and no other. Assumes nothing.
+-- Document 01, "What every public statement settles": a statement allows one answer and no other. It is for functions that write no lent
+-- memory; those that do have lemmas of their own, which say what is left too. Assumes nothing.
 use mathlib.Core.Path.{_≡_}
 
 -- Post r s: the statement of a function on some input allows the answer r, with s left in lent memory

@@ -7,15 +7,18 @@ use mathlib.Core.List.{List, [], _∷_, _++_}
 use lib.ListN.{length, take, set, replicate}
 use lib.Dec.{T, eqb}
 use Rattle.scope.specs.Base.{count, sumBelow, listFrom, grown}
-use Rattle.scope.specs.Refusals.{numberOf, placeOf, kindNumber, placeNumber, inOrder, leftBy}
+use Rattle.scope.specs.Refusals.{numberOf, placeOf, kindNumber, placeNumber, rowsOfEach, leftBy}
 use Rattle.scope.specs.Geometry.{sizeFits, factorFits, geometryFits, factorsDivide, sliceHeightDivides, small, planeWidth, planeHeight, planeSliceHeight, rowsAt, planeSamples, allSamples, lengthsOf, fields, swapped, planeStart, rowStart}
 use Rattle.scope.specs.Layout.{le32, entry, preambleEnd, countByte, planeIndex, namedBefore, placeInPlane, sliceStart, sliceEnd, isRaw, predictorOf, payloadOf, samplesIn}
 use Rattle.scope.specs.Bits.{bitAt, window, packedFrom, rawSamples}
-use Rattle.scope.specs.Words.{lengthOf, longest, shorter, shortest, tooLong, share, shares, overfull, startDown, first, wordOf, isHead, headBelow, heads, needFrom, need, beginsWith, wordBelow, wordAt, Chain, symbols, stuckAt, _before_, onWord, chainBy, chain}
+use Rattle.scope.specs.Words.{lengthOf, longest, shorter, shortest, tooLong, share, shares, overfull, startDown, first, wordOf, isHead, headBelow, heads, needFrom, need, beginsWith, wordBelow, wordAt, Chain, symbols, stuckAt, _before_, onWord, chainBy, chain, symbolsOf}
 use Rattle.scope.specs.Lookup.{packed, unpacked, beginsIn, wordIn, firstPart, slots, tableOf, lookupIn}
 use Rattle.scope.specs.Prediction.{gradient, clampMedian, t87Median, median, predictor, prediction, sample, samplesOf, plus}
-use Rattle.scope.specs.Frame.{lentChecks, preambleChecks, indexCheck, lengthCheck, needOfAll, roomCheck, fewestBytes, sliceCheck, residuesOf, readable, symbolsOf, readCheck, frameChecks, readChecks, sliceSamples, planeUpTo, wirePlane, bufferPlane, planesUpTo, pictureOf, restOf, answerOf, planesAfter, workspaceAfter}
+use Rattle.scope.specs.Frame.{needOfAll, fewestBytes, residuesOf, sliceSamples, planeUpTo, wirePlane, coloured, planesUpTo, pictureOf, table, answerOf, planesAfter, workspaceAfter}
+use Rattle.scope.specs.Pieces.{lentChecks}
 use Rattle.scope.specs.Alone.{buildAnswer, workspaceBuilt, readAnswer, samplesRead, workspaceRead}
+use Rattle.scope.specs.declared.Entry.{Entry}
+use Rattle.scope.specs.declared.Entry.the-variants.{Eight, Deep}
 use Rattle.scope.specs.declared.Family.{Family}
 use Rattle.scope.specs.declared.Family.the-variants.{Gray, Rgb, Yuv}
 use Rattle.scope.specs.declared.Geometry.{Geometry}
@@ -80,7 +83,7 @@ le n rest = n ∷ 0 ∷ 0 ∷ 0 ∷ rest
 -- what a decode of depth 8 with all lengths zero says and leaves in the planes, which held 9 everywhere
 unfoldable pub decoded : List ℕ → Geometry → ℕ → ℕ → List ℕ
 decoded frame g planes lengths =
-    said (answerOf false frame g (replicate lengths 0) planes 4) ++ planesAfter false frame g (replicate lengths 0) (replicate planes 9) 4
+    said (answerOf Eight frame g (replicate lengths 0) planes 4) ++ planesAfter Eight frame g (replicate lengths 0) (replicate planes 9) 4
 
 -- "Gray 2×1, depth 8, slice height 1 .. 32 bytes of zero; 00 00 00 00; 0A 00 00 00; 01 00; 01 01 07 05. 46 bytes"
 unfoldable pub tiny : List ℕ
@@ -121,16 +124,16 @@ coded = replicate 36 0 ++ le 10 (1 ∷ 0 ∷ 0 ∷ 1 ∷ 0x8C ∷ [])
 unfoldable pub codedSays : List ℕ → ℕ → List ℕ
 codedSays ls workspace =
     let lengths : List ℕ = ls ++ replicate (256 - length ls) 0 in
-    said (answerOf false coded (plain Gray 3 1 1 false) lengths 3 workspace)
-    ++ planesAfter false coded (plain Gray 3 1 1 false) lengths (9 ∷ 9 ∷ 9 ∷ []) workspace
-    ++ workspaceAfter false coded (plain Gray 3 1 1 false) lengths 3 (replicate workspace 9)
+    said (answerOf Eight coded (plain Gray 3 1 1 false) lengths 3 workspace)
+    ++ planesAfter Eight coded (plain Gray 3 1 1 false) lengths (9 ∷ 9 ∷ 9 ∷ []) workspace
+    ++ workspaceAfter Eight coded (plain Gray 3 1 1 false) lengths 3 (replicate workspace 9)
 
 -- Gray 2×1 of depth 10 with one raw slice of predictor Left, bytes FF C0 10: residues 1023 and 1; by each of the two entries
-unfoldable pub deepSays : Bool → List ℕ
-deepSays deep =
+unfoldable pub deepSays : Entry → List ℕ
+deepSays which =
     let g : Geometry = record { width = 2; height = 1; «slice_height» = 1; family = Gray; sx = 1; sy = 1; depth = 10; interlaced = false } in
     let frame : List ℕ = replicate 36 0 ++ le 10 (1 ∷ 0 ∷ 1 ∷ 1 ∷ 0xFF ∷ 0xC0 ∷ 0x10 ∷ []) in
-    said (answerOf deep frame g (replicate 1024 0) 2 1) ++ planesAfter deep frame g (replicate 1024 0) (9 ∷ 9 ∷ []) 1
+    said (answerOf which frame g (replicate 1024 0) 2 1) ++ planesAfter which frame g (replicate 1024 0) (9 ∷ 9 ∷ []) 1
 
 -- ---- the table
 
@@ -224,11 +227,11 @@ known =
     ∷ (codedSays (3 ∷ 3 ∷ 3 ∷ []) 8 is 12 ∷ 1 ∷ 0 ∷ 0 ∷ 0 ∷ 0 ∷ 0 ∷ 0 ∷ 0 ∷ 0 ∷ 0 ∷ 0 ∷ 0 ∷ 0 ∷ [])
     ∷ (codedSays (2 ∷ 2 ∷ []) 4 is 14 ∷ 2 ∷ 0 ∷ 0 ∷ 0 ∷ 0 ∷ 0 ∷ 0 ∷ 0 ∷ 0 ∷ [])
     -- depth 10 by its own entry: 1023, 0; by the other it is refusal 1, which leaves the planes as found
-    ∷ (deepSays true is 0 ∷ 0 ∷ 0 ∷ 1023 ∷ 0 ∷ [])
-    ∷ (deepSays false is 1 ∷ 0 ∷ 0 ∷ 9 ∷ 9 ∷ [])
+    ∷ (deepSays Deep is 0 ∷ 0 ∷ 0 ∷ 1023 ∷ 0 ∷ [])
+    ∷ (deepSays Eight is 1 ∷ 0 ∷ 0 ∷ 9 ∷ 9 ∷ [])
     -- 2 and 3: factors that do not divide the height, or the slice height; 5: a frame of 39 bytes; 13: a slice of one byte
-    ∷ (said (lentChecks false (record { width = 2; height = 3; «slice_height» = 4; family = Yuv; sx = 2; sy = 2; depth = 8; interlaced = false }) 0 0) is 2 ∷ 0 ∷ 0 ∷ [])
-    ∷ (said (lentChecks false (record { width = 2; height = 6; «slice_height» = 3; family = Yuv; sx = 2; sy = 2; depth = 8; interlaced = false }) 0 0) is 3 ∷ 0 ∷ 0 ∷ [])
+    ∷ (said (lentChecks Eight (record { width = 2; height = 3; «slice_height» = 4; family = Yuv; sx = 2; sy = 2; depth = 8; interlaced = false }) 0 0) is 2 ∷ 0 ∷ 0 ∷ [])
+    ∷ (said (lentChecks Eight (record { width = 2; height = 6; «slice_height» = 3; family = Yuv; sx = 2; sy = 2; depth = 8; interlaced = false }) 0 0) is 3 ∷ 0 ∷ 0 ∷ [])
     ∷ (tinySays (take 39 tiny) is 5 ∷ 0 ∷ 0 ∷ 0 ∷ 0 ∷ [])
     ∷ (tinySays (take 43 tiny) is 13 ∷ 1 ∷ 0 ∷ 0 ∷ 0 ∷ [])
     -- a cut last place of a subsampled plane, with the slices out of plane order
@@ -238,14 +241,14 @@ known =
     ∷ []
 
 pub known-answers : T (allHold known)
-unfolding count sumBelow listFrom grown inOrder leftBy
+unfolding count sumBelow listFrom grown rowsOfEach leftBy
     sizeFits factorFits geometryFits factorsDivide sliceHeightDivides small planeWidth planeHeight planeSliceHeight rowsAt planeSamples allSamples lengthsOf fields swapped planeStart rowStart
     le32 entry preambleEnd countByte planeIndex namedBefore placeInPlane sliceStart sliceEnd isRaw predictorOf payloadOf samplesIn
     bitAt window packedFrom rawSamples
-    longest shorter shortest tooLong share shares overfull startDown first wordOf isHead headBelow heads needFrom need beginsWith wordBelow wordAt _before_ onWord chainBy
+    longest shorter shortest tooLong share shares overfull startDown first wordOf isHead headBelow heads needFrom need beginsWith wordBelow wordAt _before_ onWord chainBy symbolsOf
     packed unpacked beginsIn wordIn firstPart slots tableOf lookupIn
     gradient clampMedian t87Median median predictor prediction sample samplesOf plus
-    lentChecks preambleChecks indexCheck lengthCheck needOfAll roomCheck fewestBytes sliceCheck residuesOf readable symbolsOf readCheck frameChecks readChecks sliceSamples planeUpTo wirePlane bufferPlane planesUpTo pictureOf restOf answerOf planesAfter workspaceAfter
+    lentChecks needOfAll fewestBytes residuesOf sliceSamples planeUpTo wirePlane coloured planesUpTo pictureOf table answerOf planesAfter workspaceAfter
     buildAnswer workspaceBuilt readAnswer samplesRead workspaceRead
     wordsBelow wordsOf found read said plain le decoded tiny tinySays colours five half bands coded codedSays deepSays known
 known-answers = tt

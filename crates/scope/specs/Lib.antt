@@ -7,5 +7,6 @@ pub mod Words
 pub mod Lookup
 pub mod Prediction
 pub mod Frame
+pub mod Pieces
 pub mod Alone
 pub mod Known

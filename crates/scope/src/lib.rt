@@ -10,6 +10,12 @@ pub enum Family {
     Yuva,
 }
 
+// Document 01, "What comes in": one entry serves depth 8, one serves depths 10, 12 and 14.
+pub enum Entry {
+    Eight,
+    Deep,
+}
+
 // What the host read from the header: specs/Geometry.antt has the rules that each number must keep.
 pub struct Geometry {
     pub width: usize,

@@ -9,7 +9,6 @@ use mathlib.Core.Bool.{true, false}
 use lib.Dec.{ltb}
 use lib.ListN.{length, drop}
 use borrow.Author.Tests.{lt-ltb, le-ltb, le-leb, ltb-false}
-use Rattle.scope.specs.Base.{replaced}
 use Rattle.scope.specs.Refusals.{leftBy}
 use Rattle.scope.specs.Words.{longest, shortest, shares, need, tooLong, overfull}
 use Rattle.scope.specs.Lookup.{tableOf}
@@ -18,6 +17,7 @@ use Rattle.scope.specs.declared.Place.{Place}
 use Rattle.scope.specs.declared.Place.the-variants.{Plane, Nothing}
 use Rattle.scope.specs.declared.Answer.{Answer}
 use Rattle.scope.specs.declared.Answer.the-variants.{Done, Refused}
+use Rattle.lists.specs.Parts.{replaced}
 use Rattle.lists.proofs.Tests.{which}
 use Rattle.codes.proofs.Kraft.{none-over, over-none}
 use Rattle.words.specs.Weigh.{weighed}

@@ -6,13 +6,14 @@ use mathlib.Core.List.{List}
 use lib.ListN.{length}
 use borrow.Author.Tests.{le-ltb}
 use Rattle.scope.specs.Base.{zeros}
-use Rattle.scope.specs.Refusals.{leftBy}
-use Rattle.scope.specs.Words.{longest, shares, need, Chain, symbols, stuckAt, chain}
-use Rattle.scope.specs.Frame.{readable, symbolsOf}
+use Rattle.scope.specs.Refusals.{leftBy, leftAlone}
+use Rattle.scope.specs.Words.{longest, shares, need, Chain, symbols, stuckAt, chain, symbolsOf}
 use Rattle.scope.specs.Alone.{readAnswer, samplesRead, workspaceRead}
 use Rattle.scope.specs.declared.Place.the-variants.{Plane}
 use Rattle.scope.specs.declared.Answer.{Answer}
 use Rattle.scope.specs.declared.Answer.the-variants.{Done, Refused}
+use Rattle.scope.specs.Pieces.{readable}
+use Rattle.scope.proofs.Table.{read-in-pieces}
 use Rattle.codes.proofs.Longest.{longest-most}
 use Rattle.codes.proofs.Words.{prefix-free}
 use Rattle.codes.proofs.Kraft.{word-fits}
@@ -30,8 +31,8 @@ module _ (ls payload samples workspace : List ℕ) (few : length ls ≤ 16384) (
 
   -- once the table is built the chain decides
   answer-is : readAnswer ls payload (length samples) (length workspace) ≡ readable 0 the-chain
-  unfolding readAnswer the-chain
-  answer-is = simp (le-ltb _ _ n, answer-done ls (length workspace) few small full room)
+  unfolding the-chain
+  answer-is = read-in-pieces ls payload (length samples) (length workspace) ∙ simp (le-ltb _ _ n, answer-done ls (length workspace) few small full room)
 
   -- a chain of words
   found : (ss : List ℕ) → the-chain ≡ symbols ss
@@ -68,7 +69,7 @@ module _ (ls payload samples workspace : List ℕ) (few : length ls ≤ 16384) (
 
   clears : workspaceRead ls payload (length samples) workspace ≡ zeros workspace
   unfolding workspaceRead
-  clears = ap (λ (r : Answer). leftBy 11 r workspace (zeros workspace) (zeros workspace)) answer-is ∙ cleared workspace the-chain
+  clears = ap (λ (r : Answer). leftAlone r workspace (zeros workspace) (zeros workspace)) answer-is ∙ cleared workspace the-chain
 
   -- what demand 3 asks of a reading
   pub reads-chain : ReadsChain ls payload samples workspace

@@ -9,16 +9,17 @@ use lib.ListN.{length, take, drop, replicate}
 use lib.Seq.{take-at}
 use borrow.Author.Tests.{lt-ltb, le-ltb, le-leb}
 use Rattle.scope.specs.Base.{zeros}
-use Rattle.scope.specs.Refusals.{_andThen_, leftBy}
-use Rattle.scope.specs.Words.{longest, need, wordAt, Chain, symbols, stuckAt, chainBy, chain}
+use Rattle.scope.specs.Refusals.{_andThen_, leftBy, leftAlone}
+use Rattle.scope.specs.Words.{longest, need, wordAt, Chain, symbols, stuckAt, chainBy, chain, symbolsOf}
 use Rattle.scope.specs.Lookup.{tableOf, lookupIn}
-use Rattle.scope.specs.Frame.{readable, symbolsOf}
 use Rattle.scope.specs.Alone.{buildAnswer, workspaceBuilt, readAnswer, samplesRead, workspaceRead, ReadAlone}
 use Rattle.scope.specs.declared.Found.{Found}
 use Rattle.scope.specs.declared.Place.{Place}
 use Rattle.scope.specs.declared.Place.the-variants.{Plane, Nothing}
 use Rattle.scope.specs.declared.Answer.{Answer}
 use Rattle.scope.specs.declared.Answer.the-variants.{Done, Refused}
+use Rattle.scope.specs.Pieces.{readable}
+use Rattle.scope.proofs.Table.{read-in-pieces}
 use Rattle.codes.proofs.Table.{table-length}
 use Rattle.codes.proofs.Lookup.{looks-take}
 use Rattle.reader.specs.Reading.{WordsRead, Readable}
@@ -54,7 +55,7 @@ module _ (look : ℕ → Found) (workspace samples : List ℕ) (o : Reached) (ou
 -- ---- from the start
 
 -- a reading leaves the workspace wholly zero, whatever the chain is
-pub cleared : (workspace : List ℕ) (c : Chain) → leftBy 11 (readable 0 c) workspace (zeros workspace) (zeros workspace) ≡ zeros workspace
+pub cleared : (workspace : List ℕ) (c : Chain) → leftAlone (readable 0 c) workspace (zeros workspace) (zeros workspace) ≡ zeros workspace
 unfolding leftBy readable
 cleared workspace (symbols ss) = refl
 cleared workspace (stuckAt p) = refl
@@ -75,8 +76,7 @@ module _ (ls payload workspace samples : List ℕ) where
     -- what is answered after the building
     after : (r : Answer) → buildAnswer ls (length workspace) ≡ r
         → readAnswer ls payload (length samples) (length workspace) ≡ r andThen readable 0 (chain ls payload 0 (length samples))
-    unfolding readAnswer
-    after r e = simp (le-ltb _ _ few, e)
+    after r e = read-in-pieces ls payload (length samples) (length workspace) ∙ simp (le-ltb _ _ few, e)
 
     module _ (o : Built) (workspace₁ : List ℕ) (b : BuiltTable ls workspace o workspace₁) where
       -- no table is built
@@ -129,10 +129,10 @@ module _ (ls payload workspace samples : List ℕ) where
         read-table r workspace₂ samples₂ l a = record {
           answer = a .answer ∙ ap (readable 0) same-chain ∙ sym e;
           samples = a .samples
-              ∙ ap (λ (c : Chain). leftBy 11 (readable 0 c) samples (zeros samples) (symbolsOf c)) same-chain
+              ∙ ap (λ (c : Chain). leftAlone (readable 0 c) samples (zeros samples) (symbolsOf c)) same-chain
               ∙ unfold samplesRead in (rw e refl);
           workspace = a .workspace ∙ ap (λ (n : ℕ). replicate n 0) l
-              ∙ unfold workspaceRead in (sym (ap (λ (x : Answer). leftBy 11 x workspace (zeros workspace) (zeros workspace)) e ∙ cleared workspace (chain ls payload 0 (length samples))));
+              ∙ unfold workspaceRead in (sym (ap (λ (x : Answer). leftAlone x workspace (zeros workspace) (zeros workspace)) e ∙ cleared workspace (chain ls payload 0 (length samples))));
         }
           where
             e : readAnswer ls payload (length samples) (length workspace) ≡ readable 0 (chain ls payload 0 (length samples))

@@ -5,13 +5,13 @@ use Prim.Native.Nat.{ℕ}
 use mathlib.Core.List.{List}
 use lib.ListN.{length}
 use Rattle.scope.specs.Base.{zeros}
-use Rattle.scope.specs.Refusals.{leftBy}
-use Rattle.scope.specs.Words.{longest, chainBy}
-use Rattle.scope.specs.Frame.{readable, symbolsOf}
+use Rattle.scope.specs.Refusals.{leftAlone}
+use Rattle.scope.specs.Words.{longest, chainBy, symbolsOf}
 use Rattle.scope.specs.Alone.{buildAnswer, workspaceBuilt}
 use Rattle.scope.specs.declared.Found.{Found}
 use Rattle.scope.specs.declared.Answer.{Answer}
 use Rattle.scope.specs.declared.Answer.the-variants as answer
+use Rattle.scope.specs.Pieces.{readable}
 use Rattle.alone.specs.declared.Built.{Built}
 use Rattle.alone.specs.declared.Built.the-variants.{Table, Refused}
 
@@ -29,5 +29,5 @@ pub record BuiltTable (ls workspace₀ : List ℕ) (r : Built) (workspace₁ : L
 -- chain's symbols, or wholly zero.
 pub record TableRead (look : ℕ → Found) (workspace₀ samples₀ : List ℕ) (r : Answer) (workspace₁ samples₁ : List ℕ) : Type 0 where
   pub answer : r ≡ readable 0 (chainBy look 0 (length samples₀))
-  pub samples : samples₁ ≡ leftBy 11 (readable 0 (chainBy look 0 (length samples₀))) samples₀ (zeros samples₀) (symbolsOf (chainBy look 0 (length samples₀)))
+  pub samples : samples₁ ≡ leftAlone (readable 0 (chainBy look 0 (length samples₀))) samples₀ (zeros samples₀) (symbolsOf (chainBy look 0 (length samples₀)))
   pub workspace : workspace₁ ≡ zeros workspace₀

@@ -8,9 +8,9 @@ use mathlib.Core.Bool.{false}
 use mathlib.Core.List.{List}
 use lib.ListN.{length, getD}
 use lib.Seq.{ext-getD}
-use Rattle.scope.specs.Base.{replaced}
 use Rattle.scope.specs.Words.{longest, headBelow, heads, first}
 use Rattle.scope.specs.Lookup.{packed, wordIn, firstPart, tableOf}
+use Rattle.lists.specs.Parts.{replaced}
 use Rattle.codes.proofs.Heads.{none-at-longest, first-head, no-head, no-head-short, first-small}
 use Rattle.codes.proofs.Table.{need-short, need-long, table-length, table-short, table-first, table-second}
 use Rattle.words.specs.Weigh.{firstsOf}

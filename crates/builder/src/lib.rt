@@ -5,9 +5,9 @@ use words::firsts;
 ghost use mathlib.Core.Path.{_≡_};
 ghost use Prim.Native.Nat.{_+_, _*_, _-_, _^_, _≤_, _<_};
 ghost use lib.ListN.{length};
-ghost use Rattle.scope.specs.Base.{replaced};
 ghost use Rattle.scope.specs.Words.{longest, shares, need};
 ghost use Rattle.scope.specs.Lookup.{tableOf};
+ghost use Rattle.lists.specs.Parts.{replaced};
 ghost use Rattle.words.specs.Weigh.{firstsOf};
 ghost use Rattle.builder.specs.Slots.{slotBits, slotBase, StretchWritten, WordSlots, Buildable, Slotted, SymbolAsked, SymbolPut};
 

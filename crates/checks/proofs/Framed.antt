@@ -8,19 +8,21 @@ use borrow.Author.Tests.{eq-eqb, ne-eqb, lt-ltb, le-ltb, ltb-false}
 use borrow.Author.Needs.{needs}
 use lib.Dec.{eqb, ltb}
 use lib.ListN.{length, getD, set}
-use Rattle.scope.specs.Refusals.{refuseIf, _andThen_, inOrder}
+use Rattle.scope.specs.Refusals.{refuseIf, _andThen_}
 use Rattle.scope.specs.Geometry.{planeCount, sliceCount, lengthsOf}
 use Rattle.scope.specs.Layout as lay
 use Rattle.scope.specs.Layout.{planeIndex, sliceAt}
 use Rattle.scope.specs.Words.{longest, shortest}
 use Rattle.scope.specs.Frame as frm
-use Rattle.scope.specs.Frame.{preambleChecks, indexCheck, lengthCheck, sliceLengths, needOfAll, roomCheck, sliceCheck, frameChecks}
+use Rattle.scope.specs.Pieces as pcs
+use Rattle.scope.specs.Frame.{sliceLengths, needOfAll}
 use Rattle.scope.specs.declared.Geometry.{Geometry}
 use Rattle.scope.specs.declared.SliceAt.{SliceAt}
 use Rattle.scope.specs.declared.Place.{Place}
 use Rattle.scope.specs.declared.Place.the-variants.{Nothing}
 use Rattle.scope.specs.declared.Answer.{Answer}
 use Rattle.scope.specs.declared.Answer.the-variants.{Done, Refused}
+use Rattle.scope.specs.Pieces.{inOrder, preambleChecks, indexCheck, lengthCheck, roomCheck, sliceCheck, frameChecks}
 use Rattle.refusals.proofs.Rows.{index-below}
 use Rattle.refusals.proofs.InOrder.{first-passed, then-passed, if-passed, each-passed, then-same, then-then, order-same}
 use Rattle.layout.proofs.Going.{Going, going-step, going-refused}
@@ -123,12 +125,12 @@ short-long ls = go (ℕ-discrete (longest ls) 0)
 
 -- a slice by its plane's shortest word
 slice-own : (frame : List ℕ) (g : Geometry) (lengths shorts : List ℕ) (s : ℕ) → getD shorts (planeIndex frame g s) 0 ≡ shortest (sliceLengths frame g lengths s) → slicesBy frame g shorts s ≡ sliceCheck frame g lengths s
-unfolding slc.slicesBy slc.sliceRule slc.sizeCheck lay.sliceAt frm.sliceCheck frm.fewestBytes lay.samplesIn
+unfolding slc.slicesBy slc.sliceRule slc.sizeCheck lay.sliceAt pcs.sliceCheck frm.fewestBytes lay.samplesIn
 slice-own frame g lengths shorts s e = rw (e, short-long (sliceLengths frame g lengths s))
 
 -- 5 to 14 by what the lengths answer, and, where they are not refused, by what the workspace answers and each plane's shortest word
 pub framed-is : (frame : List ℕ) (g : Geometry) (lengths : List ℕ) (words room room′ : Answer) (shorts : List ℕ) → words ≡ inOrder (planeCount g) (lengthCheck g lengths) → (words ≡ Done → room ≡ room′) → (words ≡ Done → (p : ℕ) → p < planeCount g → getD shorts p 0 ≡ shortest (lengthsOf g lengths p)) → framedBy frame g words room shorts ≡ frameChecks frame g lengths room′
-unfolding slc.framedBy slc.wordsBy frm.frameChecks laid.layoutChecks
+unfolding slc.framedBy slc.wordsBy pcs.frameChecks laid.layoutChecks
 framed-is frame g lengths words room room′ shorts ew er es =
     then-then (preambleChecks frame g) (inOrder (sliceCount g) (indexCheck frame g)) (words andThen room andThen inOrder (sliceCount g) (slicesBy frame g shorts))
     ∙ then-same (preambleChecks frame g) _ _ (λ d. then-same (inOrder (sliceCount g) (indexCheck frame g)) _ _ (λ i. rest i ∙ ap (λ (x : Answer). x andThen room′ andThen inOrder (sliceCount g) (sliceCheck frame g lengths)) ew))
@@ -142,7 +144,7 @@ framed-is frame g lengths words room room′ shorts ew er es =
 
 module _ (frame : List ℕ) (g : Geometry) (lengths : List ℕ) (room : Answer) (e : Done ≡ frameChecks frame g lengths room) where
   past-preamble : Done ≡ (inOrder (sliceCount g) (indexCheck frame g) andThen inOrder (planeCount g) (lengthCheck g lengths) andThen room andThen inOrder (sliceCount g) (sliceCheck frame g lengths))
-  unfolding frm.frameChecks
+  unfolding pcs.frameChecks
   past-preamble = then-passed (preambleChecks frame g) _ e
 
   past-indices : Done ≡ (inOrder (planeCount g) (lengthCheck g lengths) andThen room andThen inOrder (sliceCount g) (sliceCheck frame g lengths))
@@ -169,5 +171,5 @@ module _ (frame : List ℕ) (g : Geometry) (lengths : List ℕ) (room : Answer) 
 
 -- 11 passes where the workspace has room for all tables
 pub room-in : (g : Geometry) (lengths : List ℕ) (w : ℕ) → Done ≡ roomCheck g lengths w → needOfAll g lengths ≤ w
-unfolding frm.roomCheck
+unfolding pcs.roomCheck
 room-in g lengths w e = ltb-false _ _ (if-passed (ltb w (needOfAll g lengths)) 11 Nothing e)

@@ -17,11 +17,13 @@ use Rattle.scope.specs.Refusals.{refuseIf, _andThen_}
 use Rattle.scope.specs.Layout.{planeIndex, sliceStart, sliceEnd, isRaw, samplesIn}
 use Rattle.scope.specs.Words.{longest}
 use Rattle.scope.specs.Frame as frm
-use Rattle.scope.specs.Frame.{sliceLengths, fewestBytes, sliceCheck}
+use Rattle.scope.specs.Pieces as pcs
+use Rattle.scope.specs.Frame.{sliceLengths, fewestBytes}
 use Rattle.scope.specs.declared.Geometry.{Geometry}
 use Rattle.scope.specs.declared.Place.the-variants.{Slice, Plane}
 use Rattle.scope.specs.declared.Answer.{Answer}
 use Rattle.scope.specs.declared.Answer.the-variants.{Done, Refused}
+use Rattle.scope.specs.Pieces.{sliceCheck}
 use Rattle.refusals.proofs.InOrder.{first-passed, then-passed, if-passed}
 use Rattle.checks.specs.Slices as slc
 use Rattle.checks.specs.Slices.{sizeCheck, sliceRule}
@@ -109,7 +111,7 @@ module _ (frame : List ℕ) (g : Geometry) (lengths : List ℕ) (s : ℕ) (h : D
   size = refuseIf (ltb (sliceEnd frame g s - (sliceStart frame g s + 2)) (fewestBytes frame g lengths s)) 12 (Slice s)
 
   past-start : Done ≡ (bounds andThen prefix andThen refuseIf wordless 14 (Plane (planeIndex frame g s)) andThen size)
-  unfolding frm.sliceCheck bounds prefix wordless size
+  unfolding pcs.sliceCheck bounds prefix wordless size
   past-start = then-passed (refuseIf (ltb (sliceEnd frame g s) (sliceStart frame g s)) 12 (Slice s)) _ h
 
   past-bounds : Done ≡ (prefix andThen refuseIf wordless 14 (Plane (planeIndex frame g s)) andThen size)

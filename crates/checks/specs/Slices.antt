@@ -7,13 +7,14 @@ use mathlib.Core.List.{List}
 use lib.Dec.{eqb, ltb}
 use lib.ListN.{length, getD}
 use Rattle.scope.specs.Base.{overUp}
-use Rattle.scope.specs.Refusals.{refuseIf, _andThen_, inOrder}
+use Rattle.scope.specs.Refusals.{refuseIf, _andThen_}
 use Rattle.scope.specs.Geometry.{planeCount, sliceCount}
 use Rattle.scope.specs.Layout.{planeIndex, sliceAt}
 use Rattle.scope.specs.declared.Geometry.{Geometry}
 use Rattle.scope.specs.declared.SliceAt.{SliceAt}
 use Rattle.scope.specs.declared.Place.the-variants.{Slice, Plane}
 use Rattle.scope.specs.declared.Answer.{Answer}
+use Rattle.scope.specs.Pieces.{inOrder}
 use Rattle.preamble.specs.Layout.{layoutChecks}
 
 -- "fewer bytes after the prefix than samples times b, over 8, rounded up"

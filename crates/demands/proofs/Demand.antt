@@ -45,9 +45,9 @@ call16 κs a r s = record {
 
 -- ---- either entry
 
-defined : (deep : Bool) (c : Call) → Allowed deep c → AsDefined deep c
-defined deep c h =
-    let done = demand-1 .accounted deep c h .done in
+defined : (which : Entry) (c : Call) → Allowed which c → AsDefined which c
+defined which c h =
+    let done = demand-1 .accounted which c h .done in
     record {
       answer = h .answer;
       number = ap numberOf (h .answer);

@@ -8,13 +8,13 @@ use Rattle.refusals.specs.Memory.{Call, answerTo, pictureFor}
 
 -- ---- demand 2: planes and refusals equal the definitions written from document 01
 
-pub record AsDefined (deep : Bool) (c : Call) : Type 0 where
+pub record AsDefined (which : Entry) (c : Call) : Type 0 where
   -- planes or a refusal, and which number
-  pub answer : c .answer ≡ answerTo deep c
-  pub number : numberOf (c .answer) ≡ numberOf (answerTo deep c)
+  pub answer : c .answer ≡ answerTo which c
+  pub number : numberOf (c .answer) ≡ numberOf (answerTo which c)
   -- the slice or plane that a refusal names, or nothing
-  pub place : placeOf (c .answer) ≡ placeOf (answerTo deep c)
+  pub place : placeOf (c .answer) ≡ placeOf (answerTo which c)
   -- where planes are handed out they are the picture, every sample of it
   pub planes : c .answer ≡ Done → c .planes₁ ≡ pictureFor c
   -- and they are handed out wherever document 01 refuses nothing
-  pub handed : answerTo deep c ≡ Done → (c .answer ≡ Done) × (c .planes₁ ≡ pictureFor c)
+  pub handed : answerTo which c ≡ Done → (c .answer ≡ Done) × (c .planes₁ ≡ pictureFor c)

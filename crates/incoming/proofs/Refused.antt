@@ -12,14 +12,16 @@ use lib.Dec.{eqb, leb}
 use Rattle.scope.specs.Refusals.{refuseIf, _andThen_}
 use Rattle.scope.specs.Geometry as geo
 use Rattle.scope.specs.Geometry.{subsampled, sizeFits, factorFits, depthFits, geometryFits, factorsDivide, sliceHeightDivides, planeCount, allSamples}
-use Rattle.scope.specs.Frame as frame
-use Rattle.scope.specs.Frame.{lentChecks}
+use Rattle.scope.specs.Pieces as pcs
 use Rattle.scope.specs.declared.Family.{Family}
 use Rattle.scope.specs.declared.Geometry.{Geometry}
 use Rattle.scope.specs.declared.Place.{Place}
 use Rattle.scope.specs.declared.Place.the-variants.{Nothing}
 use Rattle.scope.specs.declared.Answer.{Answer}
 use Rattle.scope.specs.declared.Answer.the-variants.{Done, Refused}
+use Rattle.scope.specs.Pieces.{lentChecks}
+use Rattle.scope.specs.declared.Entry.{Entry}
+use Rattle.scope.specs.declared.Entry.the-variants.{Eight, Deep}
 use Rattle.geometry.specs.Sound.{Sound}
 use Rattle.lists.proofs.Tests.{and-both, yes-is, no-is, and-first, and-before, and-second, and-none, and-true, or-cases}
 use Rattle.refusals.proofs.InOrder.{first-passed, then-passed, if-passed}
@@ -56,23 +58,23 @@ module _ (f : Family) (s : ℕ) (r : Bool) (h : r ≡ subsampled f) (ne : s ≡ 
   unfolding geo.factorFits
   factor-none t = rw (ne-eqb s 1 ne, ← h, t)
 
-module _ (deep : Bool) (depth : ℕ) where
+module _ (which : Entry) (depth : ℕ) where
   -- depth 8
-  pub depth-8 : deep ≡ false → eqb depth 8 ≡ depthFits deep depth
+  pub depth-8 : which ≡ Eight → eqb depth 8 ≡ depthFits which depth
   depth-8 e = rw e
 
-  module _ (e : deep ≡ true) where
+  module _ (e : which ≡ Deep) where
     -- depth 10
-    pub depth-10 : depth ≡ 10 → true ≡ depthFits deep depth
+    pub depth-10 : depth ≡ 10 → true ≡ depthFits which depth
     depth-10 h = rw (e, eq-eqb depth 10 h)
 
     module _ (n : depth ≡ 10 → ⊥) where
       -- depth 12
-      pub depth-12 : depth ≡ 12 → true ≡ depthFits deep depth
+      pub depth-12 : depth ≡ 12 → true ≡ depthFits which depth
       depth-12 h = rw (e, ne-eqb depth 10 n, eq-eqb depth 12 h)
 
       -- depth 14, or none
-      pub depth-14 : (depth ≡ 12 → ⊥) → eqb depth 14 ≡ depthFits deep depth
+      pub depth-14 : (depth ≡ 12 → ⊥) → eqb depth 14 ≡ depthFits which depth
       depth-14 h = rw (e, ne-eqb depth 10 n, ne-eqb depth 12 h)
 
 pub ruleset tests = (size-none, size-most, factor-one, factor-two, factor-none, depth-8, depth-10, depth-12, depth-14, needs)
@@ -100,7 +102,7 @@ factor-is f s e = elim (or-cases (eqb s 1) (subsampled f && eqb s 2) e) [
     two z = omega arith
 
 -- the entry for depths 10, 12 and 14 takes no other
-pub depth-deep : (depth : ℕ) → depthFits true depth ≡ true → (10 ≤ depth) × (depth ≤ 14)
+pub depth-deep : (depth : ℕ) → depthFits Deep depth ≡ true → (10 ≤ depth) × (depth ≤ 14)
 depth-deep depth e = elim (or-cases (eqb depth 10 || eqb depth 12) (eqb depth 14) e) [
   | inl h ↦ elim (or-cases (eqb depth 10) (eqb depth 12) h) [
     | inl k ↦ a (eqb-true depth 10 k)
@@ -119,32 +121,32 @@ depth-deep depth e = elim (or-cases (eqb depth 10 || eqb depth 12) (eqb depth 14
     d z = omega arith
 
 -- and the one for depth 8 takes 8 alone
-pub depth-shallow : (depth : ℕ) → depthFits false depth ≡ true → depth ≡ 8
+pub depth-shallow : (depth : ℕ) → depthFits Eight depth ≡ true → depth ≡ 8
 depth-shallow depth e = eqb-true depth 8 e
 
-depth-is : (deep : Bool) (depth : ℕ) → depthFits deep depth ≡ true → (8 ≤ depth) × (depth ≤ 14)
-depth-is true depth e = omega (arith, depth-deep depth e)
-depth-is false depth e = omega (arith, depth-shallow depth e)
+depth-is : (which : Entry) (depth : ℕ) → depthFits which depth ≡ true → (8 ≤ depth) × (depth ≤ 14)
+depth-is Deep depth e = omega (arith, depth-deep depth e)
+depth-is Eight depth e = omega (arith, depth-shallow depth e)
 
 -- what a geometry that fits is
-pub record Fitting (deep : Bool) (g : Geometry) : Type 0 where
+pub record Fitting (which : Entry) (g : Geometry) : Type 0 where
   pub wide : (1 ≤ g .width) × (g .width ≤ 16384)
   pub tall : (1 ≤ g .height) × (g .height ≤ 16384)
   pub sliced : (1 ≤ g .«slice_height») × (g .«slice_height» ≤ 16384)
   pub across : (1 ≤ g .sx) × (g .sx ≤ 2)
   pub down : (1 ≤ g .sy) × (g .sy ≤ 2)
-  pub depth : depthFits deep (g .depth) ≡ true
+  pub depth : depthFits which (g .depth) ≡ true
 
 -- every rule of it
-pub fitting : (deep : Bool) (g : Geometry) → geometryFits deep g ≡ true → Fitting deep g
+pub fitting : (which : Entry) (g : Geometry) → geometryFits which g ≡ true → Fitting which g
 unfolding geo.geometryFits
-fitting deep g e =
+fitting which g e =
     let W : Bool = sizeFits (g .width) in
     let H : Bool = sizeFits (g .height) in
     let S : Bool = sizeFits (g .«slice_height») in
     let X : Bool = factorFits (g .family) (g .sx) in
     let Y : Bool = factorFits (g .family) (g .sy) in
-    let u5 = and-both (W && H && S && X && Y) (depthFits deep (g .depth)) e in
+    let u5 = and-both (W && H && S && X && Y) (depthFits which (g .depth)) e in
     let u4 = and-both (W && H && S && X) Y (u5 .0) in
     let u3 = and-both (W && H && S) X (u4 .0) in
     let u2 = and-both (W && H) S (u3 .0) in
@@ -160,40 +162,40 @@ fitting deep g e =
 
 -- ---- refusals 1 to 3
 
-module _ (deep : Bool) (g : Geometry) where
+module _ (which : Entry) (g : Geometry) where
   -- refusal 1
-  pub shape-1 : (r : Bool) → r ≡ geometryFits deep g → not r ≡ true → Refused 1 Nothing ≡ shapeChecks deep g
+  pub shape-1 : (r : Bool) → r ≡ geometryFits which g → not r ≡ true → Refused 1 Nothing ≡ shapeChecks which g
   unfolding steps.shapeChecks
   shape-1 r e t = rw (no-is r _ e t)
 
-  module _ (a : Bool) (ea : a ≡ geometryFits deep g) (ta : not a ≡ false) where
+  module _ (a : Bool) (ea : a ≡ geometryFits which g) (ta : not a ≡ false) where
     -- no division by 0: sx
     pub across-some : 1 ≤ g .sx
-    across-some = fitting deep g (yes-is a _ ea ta) .across .0
+    across-some = fitting which g (yes-is a _ ea ta) .across .0
 
     -- nor by sy
     pub down-some : 1 ≤ g .sy
-    down-some = fitting deep g (yes-is a _ ea ta) .down .0
+    down-some = fitting which g (yes-is a _ ea ta) .down .0
 
     -- refusal 2 of the width
-    pub shape-2w : (r : Bool) → r ≡ eqb (g .width % g .sx) 0 → not r ≡ true → Refused 2 Nothing ≡ shapeChecks deep g
+    pub shape-2w : (r : Bool) → r ≡ eqb (g .width % g .sx) 0 → not r ≡ true → Refused 2 Nothing ≡ shapeChecks which g
     unfolding steps.shapeChecks geo.factorsDivide
     shape-2w r e t = rw (yes-is a _ ea ta, no-is r _ e t)
 
     module _ (b : Bool) (eb : b ≡ eqb (g .width % g .sx) 0) (tb : not b ≡ false) where
       -- refusal 2 of the height
-      pub shape-2h : (r : Bool) → r ≡ eqb (g .height % g .sy) 0 → not r ≡ true → Refused 2 Nothing ≡ shapeChecks deep g
+      pub shape-2h : (r : Bool) → r ≡ eqb (g .height % g .sy) 0 → not r ≡ true → Refused 2 Nothing ≡ shapeChecks which g
       unfolding steps.shapeChecks geo.factorsDivide
       shape-2h r e t = rw (yes-is a _ ea ta, yes-is b _ eb tb, no-is r _ e t)
 
       module _ (d : Bool) (ed : d ≡ eqb (g .height % g .sy) 0) (td : not d ≡ false) where
         -- refusal 3
-        pub shape-3 : (r : Bool) → r ≡ eqb (g .«slice_height» % g .sy) 0 → not r ≡ true → Refused 3 Nothing ≡ shapeChecks deep g
+        pub shape-3 : (r : Bool) → r ≡ eqb (g .«slice_height» % g .sy) 0 → not r ≡ true → Refused 3 Nothing ≡ shapeChecks which g
         unfolding steps.shapeChecks geo.factorsDivide geo.sliceHeightDivides
         shape-3 r e t = rw (yes-is a _ ea ta, yes-is b _ eb tb, yes-is d _ ed td, no-is r _ e t)
 
         -- none of the three
-        pub shape-0 : (r : Bool) → r ≡ eqb (g .«slice_height» % g .sy) 0 → not r ≡ false → Done ≡ shapeChecks deep g
+        pub shape-0 : (r : Bool) → r ≡ eqb (g .«slice_height» % g .sy) 0 → not r ≡ false → Done ≡ shapeChecks which g
         unfolding steps.shapeChecks geo.factorsDivide geo.sliceHeightDivides
         shape-0 r e t = rw (yes-is a _ ea ta, yes-is b _ eb tb, yes-is d _ ed td, yes-is r _ e t)
 
@@ -205,9 +207,9 @@ pub ruleset shapes = (shape-1, shape-2w, shape-2h, shape-3, shape-0, across-some
 passed : (t : Bool) (n : ℕ) (w : Place) → Done ≡ refuseIf (not t) n w → t ≡ true
 passed t n w e = not-false t (if-passed (not t) n w e)
 
-module _ (deep : Bool) (g : Geometry) (e : Done ≡ shapeChecks deep g) where
+module _ (which : Entry) (g : Geometry) (e : Done ≡ shapeChecks which g) where
   one : Answer
-  one = refuseIf (not (geometryFits deep g)) 1 Nothing
+  one = refuseIf (not (geometryFits which g)) 1 Nothing
 
   two : Answer
   two = refuseIf (not (factorsDivide g)) 2 Nothing
@@ -215,9 +217,9 @@ module _ (deep : Bool) (g : Geometry) (e : Done ≡ shapeChecks deep g) where
   three : Answer
   three = refuseIf (not (sliceHeightDivides g)) 3 Nothing
 
-  fit : Fitting deep g
+  fit : Fitting which g
   unfolding steps.shapeChecks one two three
-  fit = fitting deep g (passed (geometryFits deep g) 1 Nothing (first-passed one (two andThen three) e))
+  fit = fitting which g (passed (geometryFits which g) 1 Nothing (first-passed one (two andThen three) e))
 
   divided : factorsDivide g ≡ true
   unfolding steps.shapeChecks one two three
@@ -238,19 +240,19 @@ module _ (deep : Bool) (g : Geometry) (e : Done ≡ shapeChecks deep g) where
         sliced = fit .sliced;
         across = fit .across;
         down = fit .down;
-        deep = depth-is deep (g .depth) (fit .depth);
+        deep = depth-is which (g .depth) (fit .depth);
         even-width = eqb-true _ 0 (u .0);
         even-height = eqb-true _ 0 (u .1);
         even-slices = eqb-true _ 0 sliced;
       }
 
   -- of a depth that the entry serves
-  pub shape-depth : depthFits deep (g .depth) ≡ true
+  pub shape-depth : depthFits which (g .depth) ≡ true
   shape-depth = fit .depth
 
 -- the same as the code has it
-pub sound-told : (deep : Bool) (g : Geometry) (r : Answer) → r ≡ shapeChecks deep g → r ≡ Done → Sound g
-sound-told deep g r e h = shape-sound deep g (sym h ∙ e)
+pub sound-told : (which : Entry) (g : Geometry) (r : Answer) → r ≡ shapeChecks which g → r ≡ Done → Sound g
+sound-told which g r e h = shape-sound which g (sym h ∙ e)
 
 -- ---- refusal 4
 
@@ -282,11 +284,11 @@ pub ruleset lent-sizes = (lengths-fit, size-4l, size-4p, size-0, needs)
 
 -- ---- all four
 
-module _ (deep : Bool) (g : Geometry) (lengthsLen planesLen : ℕ) where
+module _ (which : Entry) (g : Geometry) (lengthsLen planesLen : ℕ) where
   -- they are the two steps one after the other
-  pub lent-steps : lentChecks deep g lengthsLen planesLen ≡ (shapeChecks deep g andThen sizeChecks g lengthsLen planesLen)
-  unfolding steps.shapeChecks steps.sizeChecks frame.lentChecks
-  lent-steps = go (geometryFits deep g) (factorsDivide g) (sliceHeightDivides g) (sizes)
+  pub lent-steps : lentChecks which g lengthsLen planesLen ≡ (shapeChecks which g andThen sizeChecks g lengthsLen planesLen)
+  unfolding steps.shapeChecks steps.sizeChecks pcs.lentChecks
+  lent-steps = go (geometryFits which g) (factorsDivide g) (sliceHeightDivides g) (sizes)
     where
       sizes : Answer
       sizes = refuseIf (not (eqb lengthsLen (planeCount g * 2 ^ g .depth) && eqb planesLen (allSamples g))) 4 Nothing
@@ -298,25 +300,25 @@ module _ (deep : Bool) (g : Geometry) (lengthsLen planesLen : ℕ) where
       go true true true s = refl
 
   -- a refusal of the first step is the answer; else the second step gives it
-  pub lent-early : (a : Answer) (n : ℕ) (w : Place) → a ≡ shapeChecks deep g → a ≡ Refused n w → Refused n w ≡ lentChecks deep g lengthsLen planesLen
+  pub lent-early : (a : Answer) (n : ℕ) (w : Place) → a ≡ shapeChecks which g → a ≡ Refused n w → Refused n w ≡ lentChecks which g lengthsLen planesLen
   lent-early a n w e h = rw (lent-steps, ← e, h)
 
   -- the second step's answer is the answer
-  pub lent-late : (a b : Answer) → a ≡ shapeChecks deep g → a ≡ Done → b ≡ sizeChecks g lengthsLen planesLen → b ≡ lentChecks deep g lengthsLen planesLen
+  pub lent-late : (a b : Answer) → a ≡ shapeChecks which g → a ≡ Done → b ≡ sizeChecks g lengthsLen planesLen → b ≡ lentChecks which g lengthsLen planesLen
   lent-late a b e h k = rw (lent-steps, ← e, h) k
 
-  module _ (e : Done ≡ lentChecks deep g lengthsLen planesLen) where
+  module _ (e : Done ≡ lentChecks which g lengthsLen planesLen) where
     -- what is known once none of 1 to 4 applies: the geometry is sound, and of a depth that the entry serves
     pub lent-sound : Sound g
-    lent-sound = shape-sound deep g (first-passed (shapeChecks deep g) _ (e ∙ lent-steps))
+    lent-sound = shape-sound which g (first-passed (shapeChecks which g) _ (e ∙ lent-steps))
 
     -- of a depth that the entry serves
-    pub lent-depth : depthFits deep (g .depth) ≡ true
-    lent-depth = shape-depth deep g (first-passed (shapeChecks deep g) _ (e ∙ lent-steps))
+    pub lent-depth : depthFits which (g .depth) ≡ true
+    lent-depth = shape-depth which g (first-passed (shapeChecks which g) _ (e ∙ lent-steps))
 
     sizes-passed : (eqb lengthsLen (planeCount g * 2 ^ g .depth) && eqb planesLen (allSamples g)) ≡ true
     unfolding steps.sizeChecks
-    sizes-passed = passed _ 4 Nothing (then-passed (shapeChecks deep g) _ (e ∙ lent-steps))
+    sizes-passed = passed _ 4 Nothing (then-passed (shapeChecks which g) _ (e ∙ lent-steps))
 
     -- the lengths are P·2^depth
     pub lent-lengths : lengthsLen ≡ planeCount g * 2 ^ g .depth

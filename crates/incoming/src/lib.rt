@@ -3,6 +3,7 @@ use geometry::is_subsampled;
 use geometry::plane_count;
 use geometry::symbol_count;
 use scope::Answer;
+use scope::Entry;
 use scope::Family;
 use scope::Geometry;
 use scope::Place;
@@ -11,7 +12,7 @@ ghost use mathlib.Core.Path.{_≡_};
 ghost use Prim.Native.Nat.{_%_, _≤_};
 ghost use lib.Dec.{eqb};
 ghost use Rattle.scope.specs.Geometry.{sizeFits, factorFits, depthFits, geometryFits};
-ghost use Rattle.scope.specs.Frame.{lentChecks};
+ghost use Rattle.scope.specs.Pieces.{lentChecks};
 ghost use Rattle.geometry.specs.Sound.{Sound};
 ghost use Rattle.incoming.specs.Steps.{shapeChecks, sizeChecks};
 
@@ -39,24 +40,26 @@ fn factor_fits(f: Family, s: usize) -> bool
 }
 
 // "One entry serves depth 8 .., one depths 10, 12 and 14"
-fn depth_fits(deep: bool, depth: usize) -> bool
-    ensures { λ r. ⌜ r ≡ depthFits deep depth ⌝ }
+fn depth_fits(which: Entry, depth: usize) -> bool
+    ensures { λ r. ⌜ r ≡ depthFits which depth ⌝ }
 {
-    if deep {
-        if depth == 10 {
-            return true;
-        }
-        if depth == 12 {
-            return true;
-        }
-        return depth == 14;
+    match which {
+        Entry::Eight => depth == 8,
+        Entry::Deep => {
+            if depth == 10 {
+                return true;
+            }
+            if depth == 12 {
+                return true;
+            }
+            depth == 14
+        },
     }
-    depth == 8
 }
 
 // The rules of a geometry.
-fn geometry_fits(deep: bool, g: Geometry) -> bool
-    ensures { λ r. ⌜ r ≡ geometryFits deep g ⌝ }
+fn geometry_fits(which: Entry, g: Geometry) -> bool
+    ensures { λ r. ⌜ r ≡ geometryFits which g ⌝ }
 {
     let f = g.family;
     if !size_fits(g.width) {
@@ -74,7 +77,7 @@ fn geometry_fits(deep: bool, g: Geometry) -> bool
     if !factor_fits(f, g.sy) {
         return false;
     }
-    depth_fits(deep, g.depth)
+    depth_fits(which, g.depth)
 }
 
 fn divides(s: usize, x: usize) -> bool
@@ -85,10 +88,10 @@ fn divides(s: usize, x: usize) -> bool
 }
 
 // Refusals 1 to 3.
-fn check_shape(deep: bool, g: Geometry) -> Answer
-    ensures { λ r. ⌜ r ≡ shapeChecks deep g ⌝ }
+fn check_shape(which: Entry, g: Geometry) -> Answer
+    ensures { λ r. ⌜ r ≡ shapeChecks which g ⌝ }
 {
-    if !geometry_fits(deep, g) {
+    if !geometry_fits(which, g) {
         return Answer::Refused(1, Place::Nothing);
     }
     if !divides(g.sx, g.width) {
@@ -121,10 +124,10 @@ fn check_sizes(g: Geometry, lengths: usize, planes: usize) -> Answer
 }
 
 // The first of refusals 1 to 4.
-pub fn lent_checks(deep: bool, g: Geometry, lengths: usize, planes: usize) -> Answer
-    ensures { λ r. ⌜ r ≡ lentChecks deep g lengths planes ⌝ }
+pub fn lent_checks(which: Entry, g: Geometry, lengths: usize, planes: usize) -> Answer
+    ensures { λ r. ⌜ r ≡ lentChecks which g lengths planes ⌝ }
 {
-    let a = check_shape(deep, g);
+    let a = check_shape(which, g);
     match a {
         Answer::Refused(n, w) => Answer::Refused(n, w),
         Answer::Done => check_sizes(g, lengths, planes),

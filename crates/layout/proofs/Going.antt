@@ -8,17 +8,16 @@ use mir.Syntax.{w64}
 use mir.Val.{Fits}
 use borrow.Author.Needs.{needs}
 use lib.ListN.{getD, set}
-use Rattle.scope.specs.Refusals.{inOrder}
 use Rattle.scope.specs.Geometry.{planeCount, slicesPerPlane, sliceCount}
 use Rattle.scope.specs.Layout as lay
 use Rattle.scope.specs.Layout.{planeIndex, namedBefore}
-use Rattle.scope.specs.Frame.{indexCheck}
 use Rattle.geometry.specs.Sound.{Sound}
 use Rattle.layout.specs.Placed.{Placed}
 use Rattle.scope.specs.declared.Geometry.{Geometry}
 use Rattle.scope.specs.declared.Place.{Place}
 use Rattle.scope.specs.declared.Answer.{Answer}
 use Rattle.scope.specs.declared.Answer.the-variants.{Done, Refused}
+use Rattle.scope.specs.Pieces.{inOrder, indexCheck}
 use Rattle.geometry.proofs.Places.{planes-most, slices-most}
 use Rattle.refusals.proofs.Rows.{index-below, index-room}
 use Rattle.refusals.proofs.InOrder.{none-yet, one-passed, one-refused, each-passed}

@@ -10,13 +10,12 @@ use borrow.Author.Tests.{eq-eqb, ne-eqb}
 use lib.ListN.{length, getD, set, length-set}
 use lib.Seq.{getD-set-same, getD-set-other}
 use Rattle.scope.specs.Base.{sumBelow}
-use Rattle.scope.specs.Refusals.{inOrder}
 use Rattle.scope.specs.Geometry.{planeCount, slicesPerPlane, sliceCount}
 use Rattle.scope.specs.Layout as lay
 use Rattle.scope.specs.Layout.{planeIndex, namedBefore}
-use Rattle.scope.specs.Frame.{indexCheck}
 use Rattle.scope.specs.declared.Geometry.{Geometry}
 use Rattle.scope.specs.declared.Answer.the-variants.{Done}
+use Rattle.scope.specs.Pieces.{inOrder, indexCheck}
 use Rattle.lists.proofs.Sums.{all-full, sum-one-more, sum-none}
 use Rattle.refusals.proofs.Rows.{index-below, index-room}
 use Rattle.refusals.proofs.InOrder.{each-passed}

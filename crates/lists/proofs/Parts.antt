@@ -7,7 +7,7 @@ use native.Mathlib.Numerals.{add-one}
 use native.Mathlib.Omega.{arith}
 use lib.ListN.{getD, length, take, drop, set, length-append, length-take, length-drop, take-append-drop}
 use lib.Seq.{take-suc, drop-cons, set-at, getD-drop, take-at, drop-at, take-append-le, drop-append-le, drop-drop, take-add, length-take-le}
-use Rattle.scope.specs.Base.{part, replaced}
+use Rattle.lists.specs.Parts.{part, replaced}
 
 -- a part within the memory is as long as was asked
 pub length-part : (l : List ℕ) (at n : ℕ) → at + n ≤ length l → length (part l at n) ≡ n

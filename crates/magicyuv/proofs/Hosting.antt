@@ -8,7 +8,7 @@ use borrow.Author.Tests.{le-leb, lt-leb}
 use lib.Dec.{eqb, leb, ltb}
 use lib.ListN.{length}
 use Rattle.scope.specs.Refusals.{placeOf, placeNumber, refuseIf, _andThen_, leftBy}
-use Rattle.scope.specs.Frame as frm
+use Rattle.scope.specs.Pieces as pcs
 use Rattle.scope.specs.Frame.{answerOf, planesAfter, workspaceAfter, Decoded}
 use Rattle.scope.specs.declared.Family.{Family}
 use Rattle.scope.specs.declared.Geometry.{Geometry}
@@ -16,13 +16,15 @@ use Rattle.scope.specs.declared.Place.{Place}
 use Rattle.scope.specs.declared.Place.the-variants.{Nothing, Plane}
 use Rattle.scope.specs.declared.Answer.{Answer}
 use Rattle.scope.specs.declared.Answer.the-variants.{Done, Refused}
+use Rattle.scope.proofs.Table.{read-in-pieces}
 use Rattle.refusals.proofs.Places.{place-small}
 use Rattle.geometry.proofs.Places.{slice-count-most}
 use Rattle.incoming.proofs.Refused.{lent-sound}
 use Rattle.scope.specs.Words.{tooLong, overfull, need, Chain, symbols, stuckAt, chain}
-use Rattle.scope.specs.Frame.{readable}
 use Rattle.scope.specs.Alone as aln
 use Rattle.scope.specs.Alone.{buildAnswer, readAnswer, BuiltAlone, ReadAlone}
+use Rattle.scope.specs.Pieces.{readable}
+use Rattle.scope.specs.declared.Entry.{Entry}
 use Rattle.magicyuv.specs.Boundary.{Numbers, numbers, familyOf, numbersFit, geometryOf, hostAnswer, Says, Hosted, BuiltFor, ReadFor}
 use Rattle.magicyuv.specs.declared.Reply.{Reply}
 
@@ -44,31 +46,31 @@ numbers-on : (n : Numbers) → n .family ≤ 4 → n .interlaced ≤ 1 → numbe
 unfolding numbersFit
 numbers-on n l h = ap (λ (t : Bool). t && leb (n .interlaced) 1) (le-leb (n .family) 4 l) ∙ le-leb (n .interlaced) 1 h
 
-module _ (deep : Bool) (frame : List ℕ) (n : Numbers) (lengths planes workspace : List ℕ) where
-  answer-off : numbersFit n ≡ false → hostAnswer deep frame n lengths (length planes) (length workspace) ≡ Refused 1 Nothing
+module _ (which : Entry) (frame : List ℕ) (n : Numbers) (lengths planes workspace : List ℕ) where
+  answer-off : numbersFit n ≡ false → hostAnswer which frame n lengths (length planes) (length workspace) ≡ Refused 1 Nothing
   unfolding hostAnswer
-  answer-off e = ap (λ (t : Bool). refuseIf (not t) 1 Nothing andThen answerOf deep frame (geometryOf n) lengths (length planes) (length workspace)) e
+  answer-off e = ap (λ (t : Bool). refuseIf (not t) 1 Nothing andThen answerOf which frame (geometryOf n) lengths (length planes) (length workspace)) e
 
-  answer-on : numbersFit n ≡ true → hostAnswer deep frame n lengths (length planes) (length workspace) ≡ answerOf deep frame (geometryOf n) lengths (length planes) (length workspace)
+  answer-on : numbersFit n ≡ true → hostAnswer which frame n lengths (length planes) (length workspace) ≡ answerOf which frame (geometryOf n) lengths (length planes) (length workspace)
   unfolding hostAnswer
-  answer-on e = ap (λ (t : Bool). refuseIf (not t) 1 Nothing andThen answerOf deep frame (geometryOf n) lengths (length planes) (length workspace)) e
+  answer-on e = ap (λ (t : Bool). refuseIf (not t) 1 Nothing andThen answerOf which frame (geometryOf n) lengths (length planes) (length workspace)) e
 
-  hosted-off : (r : Reply) → numbersFit n ≡ false → Says (Refused 1 Nothing) r → Hosted deep frame n lengths planes workspace r planes workspace
+  hosted-off : (r : Reply) → numbersFit n ≡ false → Says (Refused 1 Nothing) r → Hosted which frame n lengths planes workspace r planes workspace
   unfolding leftBy
   hosted-off r e s = record { answer = rw (answer-off e) s; planes = rw (answer-off e); workspace = rw (answer-off e) }
 
-  pub hosted-family : (r : Reply) → 4 < n .family → Says (Refused 1 Nothing) r → Hosted deep frame n lengths planes workspace r planes workspace
+  pub hosted-family : (r : Reply) → 4 < n .family → Says (Refused 1 Nothing) r → Hosted which frame n lengths planes workspace r planes workspace
   hosted-family r h s = hosted-off r (family-off n h) s
 
-  pub hosted-interlaced : (r : Reply) → n .family ≤ 4 → 1 < n .interlaced → Says (Refused 1 Nothing) r → Hosted deep frame n lengths planes workspace r planes workspace
+  pub hosted-interlaced : (r : Reply) → n .family ≤ 4 → 1 < n .interlaced → Says (Refused 1 Nothing) r → Hosted which frame n lengths planes workspace r planes workspace
   hosted-interlaced r l h s = hosted-off r (interlaced-off n l h) s
 
   -- the entry's own answer
-  pub hosted-entry : (g : Geometry) (a : Answer) (r : Reply) (planes₁ workspace₁ : List ℕ) → n .family ≤ 4 → n .interlaced ≤ 1 → g ≡ geometryOf n → Decoded deep frame g lengths planes workspace a planes₁ workspace₁ → Says a r → Hosted deep frame n lengths planes workspace r planes₁ workspace₁
+  pub hosted-entry : (g : Geometry) (a : Answer) (r : Reply) (planes₁ workspace₁ : List ℕ) → n .family ≤ 4 → n .interlaced ≤ 1 → g ≡ geometryOf n → Decoded which frame g lengths planes workspace a planes₁ workspace₁ → Says a r → Hosted which frame n lengths planes workspace r planes₁ workspace₁
   unfolding planesAfter workspaceAfter
   hosted-entry g a r planes₁ workspace₁ l h e d s =
-      let on : hostAnswer deep frame n lengths (length planes) (length workspace) ≡ answerOf deep frame (geometryOf n) lengths (length planes) (length workspace) = answer-on (numbers-on n l h) in
-      let k : Decoded deep frame (geometryOf n) lengths planes workspace a planes₁ workspace₁ = rw e at d in
+      let on : hostAnswer which frame n lengths (length planes) (length workspace) ≡ answerOf which frame (geometryOf n) lengths (length planes) (length workspace) = answer-on (numbers-on n l h) in
+      let k : Decoded which frame (geometryOf n) lengths planes workspace a planes₁ workspace₁ = rw e at d in
       record {
         answer = rw (on, ← k .answer) s;
         planes = rw on (k .planes);
@@ -82,9 +84,9 @@ placed-small Done h = omega arith
 placed-small (Refused n p) h = h n p refl
 
 -- of a frame entry's answer
-pub entry-small : (deep : Bool) (frame : List ℕ) (g : Geometry) (lengths planes workspace : List ℕ) (a : Answer) (planes₁ workspace₁ : List ℕ) → Decoded deep frame g lengths planes workspace a planes₁ workspace₁ → placeNumber (placeOf a) < 65536
-entry-small deep frame g lengths planes workspace a planes₁ workspace₁ d =
-    placed-small a (λ n p e. place-small deep frame g lengths (length planes) (length workspace) (λ k. slice-count-most g (lent-sound deep g (length lengths) (length planes) k)) a n p (d .answer) e)
+pub entry-small : (which : Entry) (frame : List ℕ) (g : Geometry) (lengths planes workspace : List ℕ) (a : Answer) (planes₁ workspace₁ : List ℕ) → Decoded which frame g lengths planes workspace a planes₁ workspace₁ → placeNumber (placeOf a) < 65536
+entry-small which frame g lengths planes workspace a planes₁ workspace₁ d =
+    placed-small a (λ n p e. place-small which frame g lengths (length planes) (length workspace) (λ k. slice-count-most g (lent-sound which g (length lengths) (length planes) k)) a n p (d .answer) e)
 
 -- of an answer that is a check and more
 check-small : (t : Bool) (n : ℕ) (p : Place) (b : Answer) → placeNumber p < 65536 → placeNumber (placeOf b) < 65536 → placeNumber (placeOf (refuseIf t n p andThen b)) < 65536
@@ -108,15 +110,15 @@ alone-small ls w =
     (one-small (ltb w (need ls)) 11 Nothing (omega arith))))
 
 chain-small : (c : Chain) → placeNumber (placeOf (readable 0 c)) < 65536
-unfolding frm.readable
+unfolding pcs.readable
 chain-small (symbols ss) = omega arith
 chain-small (stuckAt at) = omega arith
 
 read-small : (ls payload : List ℕ) (n w : ℕ) → placeNumber (placeOf (readAnswer ls payload n w)) < 65536
-unfolding aln.readAnswer
 read-small ls payload n w =
-    check-small (ltb 268435456 n) 4 Nothing _ (omega arith)
-    (then-small (buildAnswer ls w) (readable 0 (chain ls payload 0 n)) (alone-small ls w) (chain-small (chain ls payload 0 n)))
+    rw (read-in-pieces ls payload n w)
+    (check-small (ltb 268435456 n) 4 Nothing _ (omega arith)
+    (then-small (buildAnswer ls w) (readable 0 (chain ls payload 0 n)) (alone-small ls w) (chain-small (chain ls payload 0 n))))
 
 -- of a table's and a reading's by itself
 pub built-small : (ls ws ws₁ : List ℕ) (a : Answer) → BuiltAlone ls ws a ws₁ → placeNumber (placeOf a) < 65536

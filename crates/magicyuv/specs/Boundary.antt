@@ -3,13 +3,13 @@
 use mathlib.Core.Path.{_≡_}
 use Prim.Native.Nat.{ℕ, zero, suc}
 use mathlib.Core.Bool.{Bool, not, _&&_}
-use mathlib.Core.List.{List}
 use lib.ListN.{length}
 use lib.Dec.{eqb, leb}
-use Rattle.scope.specs.Base.{zeros}
-use Rattle.scope.specs.Refusals.{numberOf, placeOf, kindNumber, placeNumber, refuseIf, _andThen_, leftBy}
+use Rattle.scope.specs.Base.{Bytes, Lengths, Samples, Words, zeros}
+use Rattle.scope.specs.Refusals.{numberOf, placeOf, kindNumber, placeNumber, refuseIf, _andThen_, leftByFrame}
 use Rattle.scope.specs.Frame.{answerOf, pictureOf}
 use Rattle.scope.specs.Alone.{buildAnswer, workspaceBuilt, readAnswer, samplesRead, workspaceRead}
+use Rattle.scope.specs.declared.Entry.{Entry}
 use Rattle.scope.specs.declared.Family.{Family}
 use Rattle.scope.specs.declared.Family.the-variants.{Gray, Rgb, Yuv, Rgba, Yuva}
 use Rattle.scope.specs.declared.Geometry.{Geometry}
@@ -28,12 +28,12 @@ pub record Numbers : Type 0 where
   pub depth : ℕ
   pub interlaced : ℕ
 
-abbrev pub numbers : ℕ → ℕ → ℕ → ℕ → ℕ → ℕ → ℕ → ℕ → Numbers
+abbrev pub numbers : (w h sh f sx sy d i : ℕ) → Numbers
 numbers w h sh f sx sy d i =
     record { width = w; height = h; sliceHeight = sh; family = f; sx = sx; sy = sy; depth = d; interlaced = i }
 
 -- family 0 is Gray, 1 Rgb, 2 Yuv, 3 Rgba, 4 Yuva
-abbrev pub familyOf : ℕ → Family
+abbrev pub familyOf : (n : ℕ) → Family
 familyOf zero = Gray
 familyOf (suc zero) = Rgb
 familyOf (suc (suc zero)) = Yuv
@@ -41,10 +41,10 @@ familyOf (suc (suc (suc zero))) = Rgba
 familyOf (suc (suc (suc (suc n)))) = Yuva
 
 -- the numbers name a family, and 0 or 1 for interlaced
-unfoldable pub numbersFit : Numbers → Bool
+unfoldable pub numbersFit : (n : Numbers) → Bool
 numbersFit n = leb (n .family) 4 && leb (n .interlaced) 1
 
-unfoldable pub geometryOf : Numbers → Geometry
+unfoldable pub geometryOf : (n : Numbers) → Geometry
 geometryOf n =
     record {
       width = n .width;
@@ -58,9 +58,9 @@ geometryOf n =
     }
 
 -- any other number for the family or for interlaced is refusal 1; then the answer is the entry's
-unfoldable pub hostAnswer : Bool → List ℕ → Numbers → List ℕ → ℕ → ℕ → Answer
-hostAnswer deep frame n lengths planesLen workspaceLen =
-    let entry : Answer = answerOf deep frame (geometryOf n) lengths planesLen workspaceLen in
+unfoldable pub hostAnswer : (which : Entry) (frame : Bytes) (n : Numbers) (lengths : Lengths) (planesLen workspaceLen : ℕ) → Answer
+hostAnswer which frame n lengths planesLen workspaceLen =
+    let entry : Answer = answerOf which frame (geometryOf n) lengths planesLen workspaceLen in
     refuseIf (not (numbersFit n)) 1 Nothing andThen entry
 
 -- the reply says the answer's number, the kind of its place (0 nothing, 1 a slice, 2 a plane), and which one
@@ -70,17 +70,17 @@ pub record Says (a : Answer) (r : Reply) : Type 0 where
   pub place : r .place ≡ placeNumber (placeOf a)
 
 -- the statement of an exported frame entry
-pub record Hosted (deep : Bool) (frame : List ℕ) (n : Numbers) (lengths planes₀ workspace₀ : List ℕ) (r : Reply) (planes₁ workspace₁ : List ℕ) : Type 0 where
-  pub answer : Says (hostAnswer deep frame n lengths (length planes₀) (length workspace₀)) r
-  pub planes : planes₁ ≡ leftBy 4 (hostAnswer deep frame n lengths (length planes₀) (length workspace₀)) planes₀ (zeros planes₀) (pictureOf frame (geometryOf n) lengths)
-  pub workspace : workspace₁ ≡ leftBy 4 (hostAnswer deep frame n lengths (length planes₀) (length workspace₀)) workspace₀ (zeros workspace₀) (zeros workspace₀)
+pub record Hosted (which : Entry) (frame : Bytes) (n : Numbers) (lengths : Lengths) (planes₀ : Samples) (workspace₀ : Words) (r : Reply) (planes₁ : Samples) (workspace₁ : Words) : Type 0 where
+  pub answer : Says (hostAnswer which frame n lengths (length planes₀) (length workspace₀)) r
+  pub planes : planes₁ ≡ leftByFrame (hostAnswer which frame n lengths (length planes₀) (length workspace₀)) planes₀ (zeros planes₀) (pictureOf frame (geometryOf n) lengths)
+  pub workspace : workspace₁ ≡ leftByFrame (hostAnswer which frame n lengths (length planes₀) (length workspace₀)) workspace₀ (zeros workspace₀) (zeros workspace₀)
 
 -- the statements of the exported table and reading
-pub record BuiltFor (ls workspace₀ : List ℕ) (r : Reply) (workspace₁ : List ℕ) : Type 0 where
+pub record BuiltFor (ls : Lengths) (workspace₀ : Words) (r : Reply) (workspace₁ : Words) : Type 0 where
   pub answer : Says (buildAnswer ls (length workspace₀)) r
   pub workspace : workspace₁ ≡ workspaceBuilt ls workspace₀
 
-pub record ReadFor (ls payload workspace₀ samples₀ : List ℕ) (r : Reply) (workspace₁ samples₁ : List ℕ) : Type 0 where
+pub record ReadFor (ls : Lengths) (payload : Bytes) (workspace₀ : Words) (samples₀ : Samples) (r : Reply) (workspace₁ : Words) (samples₁ : Samples) : Type 0 where
   pub answer : Says (readAnswer ls payload (length samples₀) (length workspace₀)) r
   pub samples : samples₁ ≡ samplesRead ls payload samples₀ (length workspace₀)
   pub workspace : workspace₁ ≡ workspaceRead ls payload (length samples₀) workspace₀

@@ -9,8 +9,9 @@ use borrow.Author.Needs.{needs}
 use borrow.Author.Tests.{lt-ltb, le-ltb}
 use lib.ListN.{length, getD, take, drop, set}
 use lib.Seq.{getD-take, drop-drop}
-use Rattle.scope.specs.Base.{grown, part, replaced}
+use Rattle.scope.specs.Base.{grown}
 use Rattle.scope.specs.Prediction.{plus}
+use Rattle.lists.specs.Parts.{part, replaced}
 use Rattle.memory.specs.Sum.{added}
 use Rattle.lists.proofs.Parts.{length-part, part-next}
 use Rattle.memory.proofs.InPlace.{At, at-from, at-step, grown-take, at-take}

@@ -8,16 +8,16 @@ use native.Mathlib.Omega.{arith}
 use lib.Dec.{ltb}
 use lib.ListN.{length, getD, drop, length-take}
 use lib.Pow.{pow-mono}
-use Rattle.scope.specs.Base.{part}
-use Rattle.scope.specs.Refusals.{refuseIf, inOrder}
+use Rattle.scope.specs.Refusals.{refuseIf}
 use Rattle.scope.specs.Geometry as geo
-use Rattle.scope.specs.Geometry.{correlated, planeCount, sliceCount, planeWidth, rowsAt, allSamples, allElements, lengthsOf}
+use Rattle.scope.specs.Geometry.{correlated, planeCount, sliceCount, planeWidth, rowsAt, allSamples, lengthsOf, swapped}
 use Rattle.scope.specs.Layout as lay
 use Rattle.scope.specs.Layout.{planeIndex, placeInPlane, payloadOf, samplesIn}
 use Rattle.scope.specs.Words.{longest, shortest, need, wordAt}
 use Rattle.scope.specs.Lookup.{tableOf, lookupIn}
 use Rattle.scope.specs.Frame as frm
-use Rattle.scope.specs.Frame.{lentChecks, indexCheck, needOfAll, roomCheck, sliceLengths, sliceCheck, frameChecks, readChecks, planeUpTo, wirePlane, bufferPlane, pictureOf, restOf}
+use Rattle.scope.specs.Pieces as pcs
+use Rattle.scope.specs.Frame.{needOfAll, sliceLengths, planeUpTo, wirePlane, bufferPlane, pictureOf}
 use Rattle.scope.specs.declared.Geometry.{Geometry}
 use Rattle.scope.specs.declared.Place.{Place}
 use Rattle.scope.specs.declared.Place.the-variants.{Nothing}
@@ -44,30 +44,35 @@ use Rattle.tables.proofs.Told.{answer-is, need-is, plane-short, plane-full, pla
 use Rattle.planes.specs.Standing.{Planes, coloured}
 use Rattle.planes.proofs.Colours.{planes-same, picture-is}
 use Rattle.scope.specs.declared.Found.{Found}
+use Rattle.scope.specs.Pieces.{inOrder, lentChecks, indexCheck, roomCheck, sliceCheck, frameChecks, readChecks, restOf}
+use Rattle.scope.specs.declared.Entry.{Entry}
+use Rattle.scope.specs.declared.Entry.the-variants.{Eight, Deep}
+use Rattle.stretches.specs.Stretch.{allElements}
+use Rattle.lists.specs.Parts.{part}
 use Rattle.checks.proofs.Framed.{framed-is, frame-order, frame-lengths, frame-room, frame-slices, room-in}
 use Rattle.picture.specs.Steps as stp
 use Rattle.picture.specs.Steps.{readAt, samplesFor, gathered, planeOf, tableLook, Ready, pictureBy}
 
 -- ---- what refusals 1 to 4 leave, as the run asks for it
 
-module _ (deep : Bool) (g : Geometry) (l p : ℕ) (a : Answer) (ea : a ≡ lentChecks deep g l p) (da : a ≡ Done) where
-  lent-passed : Done ≡ lentChecks deep g l p
+module _ (which : Entry) (g : Geometry) (l p : ℕ) (a : Answer) (ea : a ≡ lentChecks which g l p) (da : a ≡ Done) where
+  lent-passed : Done ≡ lentChecks which g l p
   lent-passed = sym da ∙ ea
 
   pub lent-sound : Sound g
-  lent-sound = lent.lent-sound deep g l p lent-passed
+  lent-sound = lent.lent-sound which g l p lent-passed
 
   pub lent-lengths : l ≡ planeCount g * 2 ^ g .depth
-  lent-lengths = lent.lent-lengths deep g l p lent-passed
+  lent-lengths = lent.lent-lengths which g l p lent-passed
 
   pub lent-planes : p ≡ allElements g
-  lent-planes = lent.lent-planes deep g l p lent-passed
+  lent-planes = lent.lent-planes which g l p lent-passed
 
-pub lent-8 : (g : Geometry) (l p : ℕ) (a : Answer) → a ≡ lentChecks false g l p → a ≡ Done → g .depth ≡ 8
-lent-8 g l p a ea da = depth-shallow (g .depth) (lent.lent-depth false g l p (sym da ∙ ea))
+pub lent-8 : (g : Geometry) (l p : ℕ) (a : Answer) → a ≡ lentChecks Eight g l p → a ≡ Done → g .depth ≡ 8
+lent-8 g l p a ea da = depth-shallow (g .depth) (lent.lent-depth Eight g l p (sym da ∙ ea))
 
-pub lent-deep : (g : Geometry) (l p : ℕ) (a : Answer) → a ≡ lentChecks true g l p → a ≡ Done → 8 < g .depth
-lent-deep g l p a ea da = omega (arith, depth-deep (g .depth) (lent.lent-depth true g l p (sym da ∙ ea)) .0)
+pub lent-deep : (g : Geometry) (l p : ℕ) (a : Answer) → a ≡ lentChecks Deep g l p → a ≡ Done → 8 < g .depth
+lent-deep g l p a ea da = omega (arith, depth-deep (g .depth) (lent.lent-depth Deep g l p (sym da ∙ ea)) .0)
 
 -- ---- the tables' lookup is the word of the lengths
 
@@ -109,12 +114,8 @@ symbols-16 g ok = pow-mono {j = 16} (omega (arith, ok .deep .1))
 -- ---- the picture
 
 buffer-same : (t : Bool) (d : ℕ) (f h : ℕ → List ℕ) → ((p : ℕ) → f p ≡ h p) → (b : ℕ) → bufferPlane t d f b ≡ bufferPlane t d h b
-unfolding frm.bufferPlane
-buffer-same false d f h e b = e b
-buffer-same true d f h e zero = e 1
-buffer-same true d f h e (suc zero) = rw (e 0, e 1)
-buffer-same true d f h e (suc (suc zero)) = rw (e 2, e 1)
-buffer-same true d f h e (suc (suc (suc b))) = e (suc (suc (suc b)))
+unfolding frm.colourPlane
+buffer-same t d f h e b = rw (e (swapped t b), e 1)
 
 -- planes that stand in their stretches, coloured, are their picture
 pub read-picture : (g : Geometry) (wire : ℕ → List ℕ) (a : Answer) (buf buf′ : List ℕ) → a ≡ Done → (a ≡ Done → Planes g wire buf) → buf′ ≡ coloured g buf → buf′ ≡ pictureBy g wire
@@ -144,7 +145,7 @@ samples-most-in frame g s ok =
 module _ (frame : List ℕ) (g : Geometry) (lengths : List ℕ) (c : Codes) (is : c ≡ codesOf g lengths) (w need : ℕ) (room : Answer) (en : need ≡ c .need) (er : room ≡ refuseIf (ltb w need) 11 Nothing)
     (a : Answer) (ea : a ≡ framedBy frame g (c .answer) room (c .shortest)) where
   room-is : c .answer ≡ Done → room ≡ roomCheck g lengths w
-  unfolding frm.roomCheck
+  unfolding pcs.roomCheck
   room-is ok = er ∙ ap (λ (n : ℕ). refuseIf (ltb w n) 11 Nothing) (en ∙ need-is g lengths c is ok)
 
   -- they are the table's
@@ -155,7 +156,7 @@ module _ (frame : List ℕ) (g : Geometry) (lengths : List ℕ) (c : Codes) (is 
 
   -- a refusal is the answer
   pub run-refused : (n : ℕ) (p : Place) → a ≡ Refused n p → Refused n p ≡ restOf frame g lengths (roomCheck g lengths w)
-  unfolding frm.restOf
+  unfolding pcs.restOf
   run-refused n p h = rw (← checks-are, h)
 
   module _ (da : a ≡ Done) where
@@ -189,7 +190,7 @@ module _ (frame : List ℕ) (g : Geometry) (lengths : List ℕ) (c : Codes) (is 
           (index-below frame g s (each-passed (indexCheck frame g) (sliceCount g) s (frame-order frame g lengths (roomCheck g lengths w) passed) l)) (payloadOf frame g s) at
 
       reads-are : inOrder (sliceCount g) (readAt (tableLook workspace c) frame g) ≡ readChecks frame g lengths
-      unfolding frm.readChecks stp.readAt
+      unfolding pcs.readChecks stp.readAt
       reads-are = order-same (sliceCount g) _ _ (λ s l. read-is frame g lengths s (tableLook workspace c (planeIndex frame g s) (payloadOf frame g s)) (same s l))
 
       gathered-are : (p s : ℕ) → s ≤ sliceCount g → gathered (samplesFor (tableLook workspace c) frame g) frame g p s ≡ planeUpTo frame g lengths p s
@@ -205,7 +206,7 @@ module _ (frame : List ℕ) (g : Geometry) (lengths : List ℕ) (c : Codes) (is 
       module _ (b : Answer) (eb : b ≡ inOrder (sliceCount g) (readAt (tableLook workspace c) frame g)) where
         -- the reading's answer is the rest of the table
         pub run-read : b ≡ restOf frame g lengths (roomCheck g lengths w)
-        unfolding frm.restOf
+        unfolding pcs.restOf
         run-read = rw (← passed) (eb ∙ reads-are)
 
         -- and its planes, coloured, are the picture

@@ -7,8 +7,6 @@ use native.Mathlib.Numerals.{add-one}
 use native.Mathlib.Omega.{arith}
 use borrow.Author.Needs.{needs}
 use lib.ListN.{length, getD, set}
-use Rattle.scope.specs.Base.{replaced}
-use Rattle.scope.specs.Refusals.{inOrder}
 use Rattle.scope.specs.Geometry as geo
 use Rattle.scope.specs.Geometry.{planeCount, sliceCount, planeWidth, firstRow, rowsAt, planeSamples, allSamples, orderOf, planeStart, rowStart}
 use Rattle.scope.specs.Layout as lay
@@ -18,6 +16,8 @@ use Rattle.scope.specs.declared.SliceAt.{SliceAt}
 use Rattle.scope.specs.declared.Place.{Place}
 use Rattle.scope.specs.declared.Answer.{Answer}
 use Rattle.scope.specs.declared.Answer.the-variants.{Done, Refused}
+use Rattle.scope.specs.Pieces.{inOrder, indexCheck}
+use Rattle.lists.specs.Parts.{replaced}
 use Rattle.geometry.specs.Sound.{Sound}
 use Rattle.geometry.specs.Places.{filled}
 use Rattle.geometry.proofs.Places.{order, place-room, place-starts, filled-none, filled-next, filled-most, filled-all}
@@ -26,7 +26,6 @@ use Rattle.layout.proofs.Slices.{named-here, named-other, named-all}
 use Rattle.layout.proofs.Going.{Going, going-start, going-last, going-done, going-placed, going-four, going-scaled, going-fits, going-step, going-refused}
 use mir.Syntax.{w64}
 use mir.Val.{Fits}
-use Rattle.scope.specs.Frame.{indexCheck}
 use Rattle.lists.proofs.Parts.{put-length}
 use Rattle.planes.specs.Standing.{Planes}
 use Rattle.planes.proofs.Holds.{Holds, holds-more}

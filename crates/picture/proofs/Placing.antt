@@ -9,7 +9,7 @@ use mir.Val.{Fits}
 use borrow.Rule.Slice.PartMut.{putMid}
 use lib.ListN.{length, getD, take, drop, length-take, length-drop}
 use Rattle.scope.specs.Geometry as geo
-use Rattle.scope.specs.Geometry.{planeCount, slicesPerPlane, sliceCount, planeWidth, planeHeight, firstRow, rowsAt, allElements, fields, rowStart}
+use Rattle.scope.specs.Geometry.{planeCount, slicesPerPlane, sliceCount, planeWidth, planeHeight, firstRow, rowsAt, fields, rowStart}
 use Rattle.scope.specs.Layout as lay
 use Rattle.scope.specs.Layout.{planeIndex, placeInPlane, payloadOf, sliceAt}
 use Rattle.scope.specs.Lookup.{lookupIn}
@@ -24,7 +24,7 @@ use Rattle.reader.specs.Reading.{Readable}
 use Rattle.slice.specs.Slice.{payloadIn, SliceIn, readBy, samplesBy}
 use Rattle.tables.specs.declared.Codes.{Codes}
 use Rattle.stretches.specs.Stretch as str
-use Rattle.stretches.specs.Stretch.{stretchOf}
+use Rattle.stretches.specs.Stretch.{stretchOf, allElements}
 use Rattle.views.specs.declared.Stretch.{Stretch}
 use Rattle.views.specs.Places.{samplesAt, rowsPlaces, Rowed}
 use Rattle.views.proofs.Views.{samples-all}

@@ -5,17 +5,17 @@ use mathlib.Core.Bool.{cond}
 use mathlib.Core.List.{List, [], _++_}
 use lib.Dec.{eqb}
 use lib.ListN.{length, getD}
-use Rattle.scope.specs.Base.{part, replaced}
-use Rattle.scope.specs.Refusals.{inOrder}
 use Rattle.scope.specs.Geometry.{correlated, planeCount, sliceCount, fields, rowStart}
 use Rattle.scope.specs.Layout.{planeIndex, payloadOf, sliceAt}
 use Rattle.scope.specs.Lookup.{lookupIn}
-use Rattle.scope.specs.Frame.{indexCheck, bufferPlane, planesUpTo}
+use Rattle.scope.specs.Frame.{bufferPlane, planesUpTo}
 use Rattle.scope.specs.declared.Geometry.{Geometry}
 use Rattle.scope.specs.declared.SliceAt.{SliceAt}
 use Rattle.scope.specs.declared.Found.{Found}
 use Rattle.scope.specs.declared.Answer.{Answer}
 use Rattle.scope.specs.declared.Answer.the-variants.{Done}
+use Rattle.scope.specs.Pieces.{inOrder, indexCheck}
+use Rattle.lists.specs.Parts.{part, replaced}
 use Rattle.geometry.specs.Sound.{Sound}
 use Rattle.reader.specs.Reading.{Readable}
 use Rattle.slice.specs.Slice.{SliceIn, readBy, samplesBy}

@@ -11,9 +11,9 @@ use borrow.Author.Needs.{needs}
 use mir.Syntax.{w64}
 use mir.Val.{Fits}
 use lib.ListN.{length, replicate, length-replicate, take-append-drop}
-use Rattle.scope.specs.Base.{part, replaced}
 use Rattle.scope.specs.Prediction as pred
 use Rattle.scope.specs.Prediction.{plus}
+use Rattle.lists.specs.Parts.{part, replaced}
 use Rattle.lists.proofs.Parts.{length-part, part-before, part-after, put-keeps, put-more, part-add}
 use Rattle.memory.proofs.Sums.{plus-length, plus-append}
 use Rattle.views.specs.Places.{samplesAt, gapsAt, rowsPlaces}

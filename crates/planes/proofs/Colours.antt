@@ -12,13 +12,14 @@ use mir.Syntax.{w64}
 use mir.Val.{Fits}
 use lib.ListN.{length, length-take, length-drop}
 use Rattle.scope.specs.Base as base
-use Rattle.scope.specs.Base.{part, sumBelow}
+use Rattle.scope.specs.Base.{sumBelow}
 use Rattle.scope.specs.Geometry as geo
 use Rattle.scope.specs.Geometry.{correlated, planeCount, planeWidth, planeHeight, planeSamples, allSamples, swapped, orderOf, planeStart}
 use Rattle.scope.specs.Prediction.{plus}
 use Rattle.scope.specs.Frame as frm
 use Rattle.scope.specs.Frame.{bufferPlane, planesUpTo}
 use Rattle.scope.specs.declared.Geometry.{Geometry}
+use Rattle.lists.specs.Parts.{part}
 use Rattle.geometry.specs.Sound.{Sound}
 use Rattle.geometry.proofs.Order.{Order, stretch-in}
 use Rattle.lists.proofs.Sums.{sum-upto}
@@ -136,13 +137,13 @@ module _ (g : Geometry) (wire : ℕ → List ℕ) (buf : List ℕ) (pl : Planes 
   whole = pl .whole
 
   plain : correlated (g .family) ≡ false → buf ≡ planesUpTo (bufferPlane (correlated (g .family)) (g .depth) wire) (planeCount g)
-  unfolding frm.bufferPlane geo.swapped
+  unfolding frm.colourPlane geo.swapped
   plain e =
       holds-all (planeCount g) (orderOf g) (planeSamples g) (order g) (planeSamples g) wire buf stand whole (λ p l. refl)
       ∙ planes-same _ _ (planeCount g) (λ b l. rw e)
 
   mixed : correlated (g .family) ≡ true → withGreen (g .depth) (planeSamples g 0 + planeSamples g 0) (planeSamples g 0) (withGreen (g .depth) (planeSamples g 0) (planeSamples g 0) buf) ≡ planesUpTo (bufferPlane (correlated (g .family)) (g .depth) wire) (planeCount g)
-  unfolding frm.bufferPlane geo.swapped base.sumBelow
+  unfolding frm.colourPlane geo.swapped base.sumBelow
   mixed e =
       holds-all (planeCount g) (orderOf g) (planeSamples g) (order g) (planeSamples g) _ _ twice keeps (λ p l. refl)
       ∙ planes-same _ _ (planeCount g) (λ b l. rw e (cases b))
@@ -175,7 +176,7 @@ module _ (g : Geometry) (wire : ℕ → List ℕ) (buf : List ℕ) (pl : Planes 
       cases zero = refl
       cases (suc zero) = refl
       cases (suc (suc zero)) = refl
-      cases (suc (suc (suc b))) = rw (ne-eqb 2 (suc (suc (suc b))) (λ z. omega arith), ne-eqb 0 (suc (suc (suc b))) (λ z. omega arith))
+      cases (suc (suc (suc b))) = rw (ne-eqb 2 (suc (suc (suc b))) (λ z. omega arith), ne-eqb 0 (suc (suc (suc b))) (λ z. omega arith), ne-eqb (suc (suc (suc b))) 0 (λ z. omega arith), ne-eqb (suc (suc (suc b))) 2 (λ z. omega arith))
 
   coloured-is : (t : Bool) → correlated (g .family) ≡ t → cond t (withGreen (g .depth) (planeSamples g 0 + planeSamples g 0) (planeSamples g 0) (withGreen (g .depth) (planeSamples g 0) (planeSamples g 0) buf)) buf ≡ planesUpTo (bufferPlane (correlated (g .family)) (g .depth) wire) (planeCount g)
   coloured-is true k = mixed k

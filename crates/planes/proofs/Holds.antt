@@ -11,10 +11,11 @@ use borrow.Author.Tests.{eq-eqb, ne-eqb}
 use lib.Dec.{eqb}
 use lib.ListN.{length, take}
 use lib.Seq.{take-all, take-add}
-use Rattle.scope.specs.Base.{part, replaced, sumBelow}
+use Rattle.scope.specs.Base.{sumBelow}
 use Rattle.scope.specs.Base as base
 use Rattle.scope.specs.Frame as frm
 use Rattle.scope.specs.Frame.{planesUpTo}
+use Rattle.lists.specs.Parts.{part, replaced}
 use Rattle.geometry.proofs.Order.{Order, stretch-in}
 use Rattle.lists.proofs.Sums.{sum-next}
 use Rattle.lists.proofs.Parts.{part-before, part-after, part-more, put-keeps}

@@ -3,8 +3,8 @@
 use mathlib.Core.Path.{_≡_}
 use mathlib.Core.List.{List}
 use Prim.Native.Nat.{ℕ, zero, suc, _+_, _*_, _≤_}
-use Rattle.scope.specs.Base.{part, replaced}
 use Rattle.scope.specs.Prediction.{plus}
+use Rattle.lists.specs.Parts.{part, replaced}
 use Rattle.views.specs.declared.Stretch.{Stretch}
 
 -- the w samples from `from` on are added to the w from `to` on

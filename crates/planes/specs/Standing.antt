@@ -5,10 +5,10 @@ use mathlib.Core.Bool.{cond}
 use mathlib.Core.List.{List}
 use Prim.Native.Nat.{ℕ, _+_, _<_}
 use lib.ListN.{length}
-use Rattle.scope.specs.Base.{part, replaced}
 use Rattle.scope.specs.Geometry.{correlated, planeCount, planeSamples, allSamples, planeStart}
 use Rattle.scope.specs.Prediction.{plus}
 use Rattle.scope.specs.declared.Geometry.{Geometry}
+use Rattle.lists.specs.Parts.{part, replaced}
 
 -- each of the wire's planes stands in its stretch of the buffer
 pub record Planes (g : Geometry) (wire : ℕ → List ℕ) (buffer : List ℕ) : Type 0 where

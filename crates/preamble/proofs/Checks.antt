@@ -8,11 +8,10 @@ use borrow.Author.Tests.{eq-eqb, ne-eqb, lt-ltb, le-ltb, ltb-false}
 use borrow.Author.Needs.{needs}
 use lib.Dec.{eqb, ltb}
 use lib.ListN.{length}
-use Rattle.scope.specs.Refusals.{refuseIf, inOrder}
+use Rattle.scope.specs.Refusals.{refuseIf}
 use Rattle.scope.specs.Geometry.{planeCount, sliceCount}
 use Rattle.scope.specs.Layout.{preambleStart, preambleEnd, countByte}
-use Rattle.scope.specs.Frame as frm
-use Rattle.scope.specs.Frame.{preambleChecks, indexCheck}
+use Rattle.scope.specs.Pieces as pcs
 use Rattle.preamble.specs.Layout as laid
 use Rattle.preamble.specs.Layout.{layoutChecks}
 use Rattle.refusals.proofs.InOrder.{first-passed, then-passed, if-passed}
@@ -21,6 +20,7 @@ use Rattle.scope.specs.declared.Place.{Place}
 use Rattle.scope.specs.declared.Place.the-variants.{Nothing}
 use Rattle.scope.specs.declared.Answer.{Answer}
 use Rattle.scope.specs.declared.Answer.the-variants.{Done, Refused}
+use Rattle.scope.specs.Pieces.{inOrder, preambleChecks, indexCheck}
 
 -- ---- refusals 5 to 7, in the order of the table: each section has one test more behind it
 
@@ -30,7 +30,7 @@ module _ (frame : List ℕ) (g : Geometry) (t : ℕ) (et : t ≡ sliceCount g) w
 
   -- refusal 5
   pub pre-5 : length frame < 32 + 4 * (t + 1) → Refused 5 Nothing ≡ preambleChecks frame g
-  unfolding frm.preambleChecks
+  unfolding pcs.preambleChecks
   pre-5 h = rw (lt-ltb (length frame) (preambleStart g) (rw start-is at h))
 
   module _ (l5 : 32 + 4 * (t + 1) ≤ length frame) (e : ℕ) (ee : e ≡ preambleEnd frame) where
@@ -39,7 +39,7 @@ module _ (frame : List ℕ) (g : Geometry) (t : ℕ) (et : t ≡ sliceCount g) w
 
     -- 6: the preamble ends before it starts
     pub pre-6a : e < 32 + 4 * (t + 1) → Refused 6 Nothing ≡ preambleChecks frame g
-    unfolding frm.preambleChecks
+    unfolding pcs.preambleChecks
     pre-6a h = rw (not-5, ← ee, lt-ltb (e) (preambleStart g) (rw start-is at h))
 
     module _ (l6 : 32 + 4 * (t + 1) ≤ e) where
@@ -48,7 +48,7 @@ module _ (frame : List ℕ) (g : Geometry) (t : ℕ) (et : t ≡ sliceCount g) w
 
       -- 6: or past the frame
       pub pre-6b : length frame < e → Refused 6 Nothing ≡ preambleChecks frame g
-      unfolding frm.preambleChecks
+      unfolding pcs.preambleChecks
       pre-6b h = rw (not-5, ← ee, not-6a, lt-ltb (length frame) (e) h)
 
       module _ (l6b : e ≤ length frame) where
@@ -57,7 +57,7 @@ module _ (frame : List ℕ) (g : Geometry) (t : ℕ) (et : t ≡ sliceCount g) w
 
         -- 6: or is empty
         pub pre-6c : e ≡ 32 + 4 * (t + 1) → Refused 6 Nothing ≡ preambleChecks frame g
-        unfolding frm.preambleChecks
+        unfolding pcs.preambleChecks
         pre-6c h = rw (not-5, ← ee, not-6a, not-6b, eq-eqb (e) (preambleStart g) (h ∙ start-is))
 
         module _ (n6 : e ≡ 32 + 4 * (t + 1) → ⊥) (b planes : ℕ) (eb : b ≡ countByte frame g) (ep : planes ≡ planeCount g) where
@@ -66,7 +66,7 @@ module _ (frame : List ℕ) (g : Geometry) (t : ℕ) (et : t ≡ sliceCount g) w
 
           -- refusal 7
           pub pre-7 : (b ≡ planes → ⊥) → Refused 7 Nothing ≡ preambleChecks frame g
-          unfolding frm.preambleChecks
+          unfolding pcs.preambleChecks
           pre-7 h = rw (not-5, ← ee, not-6a, not-6b, not-6c, ← eb, ne-eqb b (planeCount g) (λ z. h (z ∙ sym ep)))
 
           module _ (e7 : b ≡ planes) where
@@ -75,13 +75,13 @@ module _ (frame : List ℕ) (g : Geometry) (t : ℕ) (et : t ≡ sliceCount g) w
 
             -- 6: it lacks indices
             pub pre-6d : e < 32 + 4 * (t + 1) + 1 + t → Refused 6 Nothing ≡ preambleChecks frame g
-            unfolding frm.preambleChecks
+            unfolding pcs.preambleChecks
             pre-6d h =
                 rw (not-5, ← ee, not-6a, not-6b, not-6c, ← eb, not-7, lt-ltb (e) (preambleStart g + 1 + sliceCount g) (rw et at h))
 
             -- none of them
             pub pre-0 : 32 + 4 * (t + 1) + 1 + t ≤ e → Done ≡ preambleChecks frame g
-            unfolding frm.preambleChecks
+            unfolding pcs.preambleChecks
             pre-0 h =
                 rw (not-5, ← ee, not-6a, not-6b, not-6c, ← eb, not-7, le-ltb (e) (preambleStart g + 1 + sliceCount g) (rw et at h))
 
@@ -89,7 +89,7 @@ pub ruleset preamble = (pre-5, pre-6a, pre-6b, pre-6c, pre-7, pre-6d, pre-0)
 
 -- no refusal up to 7: the plane indices are in the frame
 pub indices-in : (frame : List ℕ) (g : Geometry) → Done ≡ preambleChecks frame g → preambleStart g + 1 + sliceCount g ≤ length frame
-unfolding frm.preambleChecks
+unfolding pcs.preambleChecks
 indices-in frame g h =
     let h1 = then-passed (refuseIf (ltb (length frame) (preambleStart g)) 5 Nothing) _ h in
     let h2 = then-passed (refuseIf (ltb (preambleEnd frame) (preambleStart g)) 6 Nothing) _ h1 in

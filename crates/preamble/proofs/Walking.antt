@@ -6,15 +6,14 @@ use native.Mathlib.Omega.{arith}
 use borrow.Author.Tests.{le-leb, lt-leb}
 use borrow.Author.Needs.{needs}
 use lib.ListN.{length, getD, set, length-set}
-use Rattle.scope.specs.Refusals.{inOrder}
 use Rattle.scope.specs.Geometry.{planeCount, slicesPerPlane, sliceCount}
 use Rattle.scope.specs.Layout as lay
 use Rattle.scope.specs.Layout.{planeIndex, namedBefore}
-use Rattle.scope.specs.Frame as frm
-use Rattle.scope.specs.Frame.{indexCheck}
+use Rattle.scope.specs.Pieces as pcs
 use Rattle.scope.specs.declared.Geometry.{Geometry}
 use Rattle.scope.specs.declared.Place.the-variants.{Slice}
 use Rattle.scope.specs.declared.Answer.the-variants.{Done, Refused}
+use Rattle.scope.specs.Pieces.{inOrder, indexCheck}
 use Rattle.layout.proofs.Slices.{Counted, counted-start, counted-more}
 use Rattle.refusals.proofs.InOrder.{none-yet, one-passed, one-refused}
 use Rattle.geometry.proofs.Places.{planes-most}
@@ -55,7 +54,7 @@ module _ (frame : List ℕ) (g : Geometry) (planes k t : ℕ) where
     module _ (p : ℕ) (ls : s < t) (ei : p ≡ planeIndex frame g s) where
       -- a slice that names no plane
       pub walk-no-plane : planes ≤ p → Refused 8 (Slice s) ≡ inOrder (sliceCount g) (indexCheck frame g)
-      unfolding frm.indexCheck lay.placeInPlane
+      unfolding pcs.indexCheck lay.placeInPlane
       walk-no-plane h =
           one-refused (indexCheck frame g) (sliceCount g) s 8 (Slice s) (rw (w .slices-are) at ls) (w .passed)
           (rw (← ei, ← w .planes-are, le-leb planes p h))
@@ -65,14 +64,14 @@ module _ (frame : List ℕ) (g : Geometry) (planes k t : ℕ) where
         so-far = let l : p < planeCount g = rw (w .planes-are) at lp in w .counted .counts p l ∙ ap (λ (y : ℕ). namedBefore frame g y s) ei
 
         all-there : k ≤ getD seen p 0 → Refused 8 (Slice s) ≡ inOrder (sliceCount g) (indexCheck frame g)
-        unfolding frm.indexCheck lay.placeInPlane
+        unfolding pcs.indexCheck lay.placeInPlane
         all-there h =
             one-refused (indexCheck frame g) (sliceCount g) s 8 (Slice s) (rw (w .slices-are) at ls) (w .passed)
             (rw (← so-far, ← w .per-plane-is, le-leb k (getD seen p 0) h, ← ei, ← w .planes-are, lt-leb planes p lp))
 
         -- any other
         pub walk-step : getD seen p 0 < k → Walk frame g planes k t (set seen p (getD seen p 0 + 1)) (s + 1)
-        unfolding frm.indexCheck lay.placeInPlane
+        unfolding pcs.indexCheck lay.placeInPlane
         walk-step h =
             record {
               counted = counted-more frame g seen s p ei (omega (arith, w .few)) (w .counted);

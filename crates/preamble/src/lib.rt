@@ -10,9 +10,8 @@ use scope::Place;
 use sides::slice_count;
 use sides::slices_per_plane;
 ghost use mathlib.Core.Path.{_≡_};
-ghost use Rattle.scope.specs.Refusals.{inOrder};
 ghost use Rattle.scope.specs.Geometry.{sliceCount};
-ghost use Rattle.scope.specs.Frame.{preambleChecks, indexCheck};
+ghost use Rattle.scope.specs.Pieces.{inOrder, preambleChecks, indexCheck};
 ghost use Rattle.geometry.specs.Sound.{Sound};
 ghost use Rattle.preamble.specs.Layout.{layoutChecks};
 

@@ -8,16 +8,19 @@ use native.Mathlib.Omega.{arith}
 use borrow.Author.Tests.{leb-false}
 use lib.Dec.{eqb, ltb, leb}
 use lib.ListN.{length}
-use Rattle.scope.specs.Refusals.{refuseIf, _andThen_, inOrder}
+use Rattle.scope.specs.Refusals.{refuseIf, _andThen_}
 use Rattle.scope.specs.Geometry.{geometryFits, factorsDivide, sliceHeightDivides, planeCount, slicesPerPlane, sliceCount, allSamples, lengthsOf}
 use Rattle.scope.specs.Layout.{preambleStart, preambleEnd, countByte, planeIndex, placeInPlane, sliceStart, sliceEnd, isRaw, predictorOf}
 use Rattle.scope.specs.Words.{longest, tooLong, overfull, Chain, symbols, stuckAt}
-use Rattle.scope.specs.Frame.{lentChecks, preambleChecks, indexCheck, lengthCheck, needOfAll, roomCheck, sliceLengths, fewestBytes, sliceCheck, residuesOf, readable, readCheck, frameChecks, readChecks, restOf, answerOf}
+use Rattle.scope.specs.Frame.{needOfAll, sliceLengths, fewestBytes, residuesOf, answerOf}
 use Rattle.scope.specs.declared.Geometry.{Geometry}
 use Rattle.scope.specs.declared.Place.{Place}
 use Rattle.scope.specs.declared.Place.the-variants.{Slice, Plane, Nothing}
 use Rattle.scope.specs.declared.Answer.{Answer}
 use Rattle.scope.specs.declared.Answer.the-variants.{Done, Refused}
+use Rattle.scope.specs.Pieces.{inOrder, lentChecks, preambleChecks, indexCheck, lengthCheck, roomCheck, sliceCheck, readable, readCheck, frameChecks, readChecks, restOf}
+use Rattle.scope.specs.declared.Entry.{Entry}
+use Rattle.scope.proofs.Table.{in-pieces}
 use Rattle.refusals.specs.Rows.{Every, LentRows, FrameRows}
 use Rattle.refusals.proofs.InOrder.{first-passed, then-passed, both-passed, each-passed}
 
@@ -70,10 +73,10 @@ module _ (Q : ℕ → Place → Type 0) where
       every-then (inOrder n f) (f n) (every-order f n (λ i l. h i (omega arith))) (h n (omega arith))
 
   -- refusals 1 to 4
-  pub every-lent : (deep : Bool) (g : Geometry) (l p : ℕ) → LentRows Q → Every Q (lentChecks deep g l p)
+  pub every-lent : (which : Entry) (g : Geometry) (l p : ℕ) → LentRows Q → Every Q (lentChecks which g l p)
   unfolding lentChecks
-  every-lent deep g l p q =
-      every-one (not (geometryFits deep g)) 1 Nothing _ (q .row1)
+  every-lent which g l p q =
+      every-one (not (geometryFits which g)) 1 Nothing _ (q .row1)
       (every-one (not (factorsDivide g)) 2 Nothing _ (q .row2)
       (every-one (not (sliceHeightDivides g)) 3 Nothing _ (q .row3)
       (every-if (not (eqb l (planeCount g * 2 ^ g .depth) && eqb p (allSamples g))) 4 Nothing (q .row4))))
@@ -116,7 +119,7 @@ module _ (Q : ℕ → Place → Type 0) where
     every-readable s (stuckAt at) l i = q .row14 s l i
 
     every-read : (s : ℕ) → s < sliceCount g → planeIndex frame g s < planeCount g → Every Q (readCheck frame g lengths s)
-    unfolding readCheck
+    unfolding readCheck readable
     every-read s l i =
         every-one (not (leb 1 (predictorOf frame g s) && leb (predictorOf frame g s) 3)) 15 (Slice s) _ (q .row15 s l)
         (every-readable s (residuesOf frame g lengths s) l i)
@@ -141,10 +144,10 @@ module _ (Q : ℕ → Place → Type 0) where
         (λ e. every-order _ _ (λ s l. every-read s l (index-below frame g s (each-passed _ _ s (indices-passed frame g lengths (roomCheck g lengths w) e) l))))
 
     -- all of them
-    pub every-answer : (deep : Bool) (planes w : ℕ) → LentRows Q → Every Q (answerOf deep frame g lengths planes w)
-    unfolding answerOf
-    every-answer deep planes w r =
-        every-then (lentChecks deep g (length lengths) planes) (restOf frame g lengths (roomCheck g lengths w)) (every-lent deep g (length lengths) planes r) (every-rest w)
+    pub every-answer : (which : Entry) (planes w : ℕ) → LentRows Q → Every Q (answerOf which frame g lengths planes w)
+    every-answer which planes w r =
+        rw (in-pieces which frame g lengths planes w)
+        (every-then (lentChecks which g (length lengths) planes) (restOf frame g lengths (roomCheck g lengths w)) (every-lent which g (length lengths) planes r) (every-rest w))
 
 -- what is said of a refusal, from what is said of the answer
 pub every-refused : (Q : ℕ → Place → Type 0) (a : Answer) (n : ℕ) (p : Place) → Every Q a → a ≡ Refused n p → Q n p

@@ -3,12 +3,12 @@
 -- (`Decoded`). Assumes nothing.
 use mathlib.Core.Path.{_≡_}
 use Prim.Native.Nat.{ℕ, _≤_, _<_}
-use mathlib.Core.Bool.{Bool}
 use mathlib.Core.List.{List}
 use lib.ListN.{length}
-use Rattle.scope.specs.Base.{zeros}
+use Rattle.scope.specs.Base.{Samples, zeros}
 use Rattle.scope.specs.Refusals.{numberOf}
 use Rattle.scope.specs.Frame.{answerOf, pictureOf, Decoded}
+use Rattle.scope.specs.declared.Entry.{Entry}
 use Rattle.scope.specs.declared.Geometry.{Geometry}
 use Rattle.scope.specs.declared.Answer.{Answer}
 
@@ -23,25 +23,25 @@ pub record Call : Type 0 where
   pub planes₁ : List ℕ
   pub workspace₁ : List ℕ
 
--- document 01's answer to it; `deep` says which entry it is
-abbrev pub answerTo : Bool → Call → Answer
-answerTo deep c = answerOf deep (c .frame) (c .geometry) (c .lengths) (length (c .planes₀)) (length (c .workspace₀))
+-- document 01's answer to it; `which` is the entry
+abbrev pub answerTo : (which : Entry) (c : Call) → Answer
+answerTo which c = answerOf which (c .frame) (c .geometry) (c .lengths) (length (c .planes₀)) (length (c .workspace₀))
 
 -- the picture that document 01 defines for it
-abbrev pub pictureFor : Call → List ℕ
+abbrev pub pictureFor : (c : Call) → Samples
 pictureFor c = pictureOf (c .frame) (c .geometry) (c .lengths)
 
 -- a call that the entry's statement allows
-abbrev pub Allowed : Bool → Call → Type 0
-Allowed deep c = Decoded deep (c .frame) (c .geometry) (c .lengths) (c .planes₀) (c .workspace₀) (c .answer) (c .planes₁) (c .workspace₁)
+abbrev pub Allowed : (which : Entry) (c : Call) → Type 0
+Allowed which c = Decoded which (c .frame) (c .geometry) (c .lengths) (c .planes₀) (c .workspace₀) (c .answer) (c .planes₁) (c .workspace₁)
 
 -- ---- one call
 
-pub record Accounted (deep : Bool) (c : Call) : Type 0 where
+pub record Accounted (which : Entry) (c : Call) : Type 0 where
   -- no number but those of document 01's table, or 0 for planes
   pub number : numberOf (c .answer) ≤ 15
   -- the answer is the table's
-  pub exact : c .answer ≡ answerTo deep c
+  pub exact : c .answer ≡ answerTo which c
   -- success defines every sample, and leaves the workspace zero
   pub done : numberOf (c .answer) ≡ 0 → (c .planes₁ ≡ pictureFor c) × (c .workspace₁ ≡ zeros (c .workspace₀))
   -- refusals 1 to 4 leave both as found
@@ -74,5 +74,5 @@ pub record Forgotten (c d : Call) : Type 0 where
 -- ---- demand 1
 
 pub record Demand1 : Type 0 where
-  pub accounted : (deep : Bool) (c : Call) → Allowed deep c → Accounted deep c
-  pub forgotten : (deep : Bool) (c d : Call) → Allowed deep c → Allowed deep d → LentAlike c d → Forgotten c d
+  pub accounted : (which : Entry) (c : Call) → Allowed which c → Accounted which c
+  pub forgotten : (which : Entry) (c d : Call) → Allowed which c → Allowed which d → LentAlike c d → Forgotten c d

@@ -149,12 +149,12 @@ module _ (frame : Bytes) (g : Geometry) (lengths : Lengths) where
   wirePlane p = planeUpTo p (sliceCount g)
 
 -- "B and R are B'+G and R'+G modulo 2^depth": of the wire's planes B', G, R', (A), the one that is plane p when that is done
-unfoldable pub coloured : (rgb : Bool) (depth : ℕ) (wire : ℕ → Samples) (p : ℕ) → Samples
-coloured rgb depth wire p = cond (rgb && (eqb p 0 || eqb p 2)) (plus depth (wire p) (wire 1)) (wire p)
+unfoldable pub colourPlane : (rgb : Bool) (depth : ℕ) (wire : ℕ → Samples) (p : ℕ) → Samples
+colourPlane rgb depth wire p = cond (rgb && (eqb p 0 || eqb p 2)) (plus depth (wire p) (wire 1)) (wire p)
 
 -- "The plane buffer holds G, B, R, (A). Other families keep wire order.": the buffer's plane b
 abbrev pub bufferPlane : (rgb : Bool) (depth : ℕ) (wire : ℕ → Samples) (b : ℕ) → Samples
-bufferPlane rgb depth wire b = coloured rgb depth wire (swapped rgb b)
+bufferPlane rgb depth wire b = colourPlane rgb depth wire (swapped rgb b)
 
 -- "Planes lie one after another with no gaps."
 unfoldable pub planesUpTo : (plane : ℕ → Samples) (b : ℕ) → Samples

@@ -14,7 +14,7 @@ use Rattle.scope.specs.Bits.{bitAt, window, packedFrom, rawSamples}
 use Rattle.scope.specs.Words.{lengthOf, longest, shorter, shortest, tooLong, share, shares, overfull, startDown, first, wordOf, isHead, headBelow, heads, needFrom, need, beginsWith, wordBelow, wordAt, Chain, symbols, stuckAt, _before_, onWord, chainBy, chain, symbolsOf}
 use Rattle.scope.specs.Lookup.{packed, unpacked, beginsIn, wordIn, firstPart, slots, tableOf, lookupIn}
 use Rattle.scope.specs.Prediction.{gradient, clampMedian, t87Median, median, predictor, prediction, sample, samplesOf, plus}
-use Rattle.scope.specs.Frame.{needOfAll, fewestBytes, residuesOf, sliceSamples, planeUpTo, wirePlane, coloured, planesUpTo, pictureOf, table, answerOf, planesAfter, workspaceAfter}
+use Rattle.scope.specs.Frame.{needOfAll, fewestBytes, residuesOf, sliceSamples, planeUpTo, wirePlane, colourPlane, planesUpTo, pictureOf, table, answerOf, planesAfter, workspaceAfter}
 use Rattle.scope.specs.Pieces.{lentChecks}
 use Rattle.scope.specs.Alone.{buildAnswer, workspaceBuilt, readAnswer, samplesRead, workspaceRead}
 use Rattle.scope.specs.declared.Entry.{Entry}
@@ -248,7 +248,7 @@ unfolding count sumBelow listFrom grown rowsOfEach leftBy
     longest shorter shortest tooLong share shares overfull startDown first wordOf isHead headBelow heads needFrom need beginsWith wordBelow wordAt _before_ onWord chainBy symbolsOf
     packed unpacked beginsIn wordIn firstPart slots tableOf lookupIn
     gradient clampMedian t87Median median predictor prediction sample samplesOf plus
-    lentChecks needOfAll fewestBytes residuesOf sliceSamples planeUpTo wirePlane coloured planesUpTo pictureOf table answerOf planesAfter workspaceAfter
+    lentChecks needOfAll fewestBytes residuesOf sliceSamples planeUpTo wirePlane colourPlane planesUpTo pictureOf table answerOf planesAfter workspaceAfter
     buildAnswer workspaceBuilt readAnswer samplesRead workspaceRead
     wordsBelow wordsOf found read said plain le decoded tiny tinySays colours five half bands coded codedSays deepSays known
 known-answers = tt

@@ -6,10 +6,10 @@ use Prim.Native.Nat.{ℕ, _≤_, _<_}
 use borrow.Author.Needs.{needs}
 use borrow.Author.Tests.{le-leb, lt-leb}
 use Rattle.scope.specs.Geometry.{fields}
-use Rattle.scope.specs.Words.{Chain, symbols, stuckAt}
+use Rattle.scope.specs.Words.{Chain, symbols, stuckAt, symbolsOf}
 use Rattle.scope.specs.Prediction.{samplesOf}
-use Rattle.scope.specs.Frame as frm
-use Rattle.scope.specs.Frame.{readable, symbolsOf}
+use Rattle.scope.specs.Words as wrd
+use Rattle.scope.specs.Pieces as pcs
 use Rattle.scope.specs.declared.Geometry.{Geometry}
 use Rattle.scope.specs.declared.SliceAt.{SliceAt}
 use Rattle.scope.specs.declared.Found.{Found}
@@ -17,6 +17,7 @@ use Rattle.scope.specs.declared.Place.{Place}
 use Rattle.scope.specs.declared.Place.the-variants.{Slice, Plane}
 use Rattle.scope.specs.declared.Answer.{Answer}
 use Rattle.scope.specs.declared.Answer.the-variants.{Done, Refused}
+use Rattle.scope.specs.Pieces.{readable}
 use Rattle.reader.specs.Reading as rdg
 use Rattle.reader.specs.Reading.{reached}
 use Rattle.reader.specs.declared.Reached.{Reached}
@@ -37,13 +38,13 @@ pub ruleset answers = (answered-end, answered-stuck, needs)
 
 -- it is what a chain answers
 answered-chain : (plane : ℕ) (c : Chain) (at : ℕ) → answered plane (reached c at) ≡ readable plane c
-unfolding answered rdg.reached frm.readable
+unfolding answered rdg.reached pcs.readable
 answered-chain plane (symbols ss) at = refl
 answered-chain plane (stuckAt q) at = refl
 
 -- a chain that did not get stuck has its symbols
 ended-symbols : (c : Chain) (at e : ℕ) → End e ≡ reached c at → c ≡ symbols (symbolsOf c)
-unfolding rdg.reached frm.symbolsOf
+unfolding rdg.reached wrd.symbolsOf
 ended-symbols (symbols ss) at e h = refl
 ended-symbols (stuckAt q) at e h = cc
 

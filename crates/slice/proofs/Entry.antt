@@ -10,9 +10,11 @@ use Rattle.scope.specs.Layout.{isRaw, payloadOf, samplesIn, sliceAt}
 use Rattle.scope.specs.Bits.{rawSamples}
 use Rattle.scope.specs.Words.{Chain, symbols, wordAt}
 use Rattle.scope.specs.Frame as frm
-use Rattle.scope.specs.Frame.{sliceLengths, residuesOf, readCheck, sliceSamples}
+use Rattle.scope.specs.Pieces as pcs
+use Rattle.scope.specs.Frame.{sliceLengths, residuesOf, sliceSamples}
 use Rattle.scope.specs.declared.Geometry.{Geometry}
 use Rattle.scope.specs.declared.Found.{Found}
+use Rattle.scope.specs.Pieces.{readCheck}
 use Rattle.codes.proofs.Chains.{chain-same}
 use Rattle.slice.specs.Slice.{residuesBy, readBy, samplesBy}
 
@@ -27,7 +29,7 @@ module _ (frame : List ℕ) (g : Geometry) (lengths : List ℕ) (s : ℕ) (look 
 
   -- its answer
   pub read-is : readBy look (g .depth) frame (sliceAt frame g s) ≡ readCheck frame g lengths s
-  unfolding readBy lay.sliceAt frm.readCheck
+  unfolding readBy lay.sliceAt pcs.readCheck pcs.readable
   read-is = rw residues-are
 
   -- its samples

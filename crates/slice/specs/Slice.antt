@@ -8,14 +8,14 @@ use lib.Dec.{leb}
 use lib.ListN.{length, take, drop}
 use Rattle.scope.specs.Refusals.{refuseIf, _andThen_}
 use Rattle.scope.specs.Bits.{rawSamples}
-use Rattle.scope.specs.Words.{Chain, symbols, chainBy}
+use Rattle.scope.specs.Words.{Chain, symbols, chainBy, symbolsOf}
 use Rattle.scope.specs.Prediction.{samplesOf}
-use Rattle.scope.specs.Frame.{readable, symbolsOf}
 use Rattle.scope.specs.declared.SliceAt.{SliceAt}
 use Rattle.scope.specs.declared.Found.{Found}
 use Rattle.scope.specs.declared.Place.the-variants.{Slice, Plane}
 use Rattle.scope.specs.declared.Answer.{Answer}
 use Rattle.scope.specs.declared.Answer.the-variants.{Done, Refused}
+use Rattle.scope.specs.Pieces.{readable}
 use Rattle.reader.specs.Reading.{positionAfter, reached}
 use Rattle.reader.specs.declared.Reached.{Reached}
 use Rattle.reader.specs.declared.Reached.the-variants.{End, Stuck}

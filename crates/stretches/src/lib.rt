@@ -8,10 +8,10 @@ use sides::plane_width;
 use views::Stretch;
 ghost use mathlib.Core.Path.{_≡_};
 ghost use Prim.Native.Nat.{_+_, _*_, _<_, _≤_};
-ghost use Rattle.scope.specs.Geometry.{planeCount, planeHeight, planeSamples, allElements, orderOf, planeStart};
+ghost use Rattle.scope.specs.Geometry.{planeCount, planeHeight, planeSamples, orderOf, planeStart};
 ghost use Rattle.scope.specs.Base.{sumBelow};
 ghost use Rattle.geometry.specs.Sound.{Sound};
-ghost use Rattle.stretches.specs.Stretch.{stretchOf};
+ghost use Rattle.stretches.specs.Stretch.{stretchOf, allElements};
 
 fn plane_samples(g: Geometry, p: usize) -> usize
     requires { ⌜ Sound g ⌝ }

@@ -9,7 +9,7 @@ use native.Mathlib.Omega.{arith}
 use lib.ListN.{length, take, drop, getD, length-append}
 use lib.Seq.{take-at, drop-at, drop-drop}
 use Rattle.scope.specs.Base as base
-use Rattle.scope.specs.Base.{part, replaced, sumBelow}
+use Rattle.scope.specs.Base.{sumBelow}
 use Rattle.scope.specs.Geometry.{planeCount, lengthsOf}
 use Rattle.scope.specs.Words.{longest, shares, need}
 use Rattle.scope.specs.Lookup.{tableOf}
@@ -17,6 +17,7 @@ use Rattle.scope.specs.Frame as frm
 use Rattle.scope.specs.Frame.{needOfAll}
 use Rattle.scope.specs.declared.Geometry.{Geometry}
 use Rattle.scope.specs.declared.Answer.the-variants.{Done}
+use Rattle.lists.specs.Parts.{part, replaced}
 use Rattle.codes.proofs.Table.{table-length}
 use Rattle.geometry.proofs.Lengths.{part-is}
 use Rattle.tables.specs.Tables.{planeNeed, tableStart, tablesUpTo, withTables, Tables}

@@ -9,16 +9,17 @@ use mir.Syntax.{w64}
 use mir.Val.{Fits}
 use lib.ListN.{getD}
 use Rattle.scope.specs.Base as base
-use Rattle.scope.specs.Refusals.{inOrder}
 use Rattle.scope.specs.Geometry.{planeCount, lengthsOf}
 use Rattle.scope.specs.Words as wrd
 use Rattle.scope.specs.Words.{longest, shortest, shares, tooLong, overfull}
 use Rattle.scope.specs.Frame as frm
-use Rattle.scope.specs.Frame.{lengthCheck, needOfAll}
+use Rattle.scope.specs.Pieces as pcs
+use Rattle.scope.specs.Frame.{needOfAll}
 use Rattle.scope.specs.declared.Geometry.{Geometry}
 use Rattle.scope.specs.declared.Place.the-variants.{Plane}
 use Rattle.scope.specs.declared.Answer.{Answer}
 use Rattle.scope.specs.declared.Answer.the-variants.{Done, Refused}
+use Rattle.scope.specs.Pieces.{inOrder, lengthCheck}
 use Rattle.codes.proofs.Shortness.{shortest-most}
 use Rattle.geometry.proofs.Places.{planes-most}
 use Rattle.lists.proofs.Sums.{sum-next}
@@ -32,13 +33,13 @@ use Rattle.tables.proofs.Arrays.{per-at}
 
 module _ (g : Geometry) (lengths : List ℕ) (p : ℕ) where
   pub plane-short : Done ≡ lengthCheck g lengths p → longest (lengthsOf g lengths p) ≤ 18
-  unfolding frm.lengthCheck wrd.tooLong
+  unfolding pcs.lengthCheck wrd.tooLong
   plane-short e =
       ltb-false 18 (longest (lengthsOf g lengths p))
       (both-passed (tooLong (lengthsOf g lengths p)) (overfull (lengthsOf g lengths p)) 9 10 (Plane p) (Plane p) e .0)
 
   pub plane-full : Done ≡ lengthCheck g lengths p → shares (lengthsOf g lengths p) ≤ 262144
-  unfolding frm.lengthCheck wrd.overfull
+  unfolding pcs.lengthCheck wrd.overfull
   plane-full e =
       ltb-false 262144 (shares (lengthsOf g lengths p))
       (both-passed (tooLong (lengthsOf g lengths p)) (overfull (lengthsOf g lengths p)) 9 10 (Plane p) (Plane p) e .1)

@@ -6,13 +6,12 @@ use Prim.Native.Nat.{ℕ, suc, _+_}
 use lib.Dec.{ltb}
 use lib.ListN.{set}
 use Rattle.scope.specs.Base.{listBelow}
-use Rattle.scope.specs.Refusals.{inOrder}
 use Rattle.scope.specs.Geometry.{planeCount, lengthsOf}
 use Rattle.scope.specs.Words.{longest, shortest}
-use Rattle.scope.specs.Frame.{lengthCheck}
 use Rattle.scope.specs.declared.Geometry.{Geometry}
 use Rattle.scope.specs.declared.Answer.{Answer}
 use Rattle.scope.specs.declared.Answer.the-variants.{Done, Refused}
+use Rattle.scope.specs.Pieces.{inOrder, lengthCheck}
 use Rattle.tables.specs.Tables.{tableStart}
 use Rattle.tables.specs.declared.Codes.{Codes}
 

@@ -3,12 +3,13 @@ use mathlib.Core.Path.{_≡_}
 use mathlib.Core.List.{List, [], _++_}
 use Prim.Native.Nat.{ℕ, zero, suc, _≤_, _<_}
 use lib.ListN.{length, drop}
-use Rattle.scope.specs.Base.{part, sumBelow}
+use Rattle.scope.specs.Base.{sumBelow}
 use Rattle.scope.specs.Geometry.{planeCount, lengthsOf}
 use Rattle.scope.specs.Words.{need}
 use Rattle.scope.specs.Lookup.{tableOf}
 use Rattle.scope.specs.Frame.{needOfAll}
 use Rattle.scope.specs.declared.Geometry.{Geometry}
+use Rattle.lists.specs.Parts.{part}
 
 module _ (g : Geometry) (lengths : List ℕ) where
   -- plane p's need

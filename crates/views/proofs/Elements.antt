@@ -7,11 +7,11 @@ use native.Mathlib.Nat.{suc-mul, mul-le-mul-right}
 use native.Mathlib.Omega.{arith}
 use lib.ListN.{length, drop, getD, set, replicate, length-replicate}
 use lib.Seq.{getD-take, getD-drop}
-use Rattle.scope.specs.Base.{part}
 use Rattle.lists.proofs.Parts.{length-part, set-put}
 use Rattle.views.specs.Places.{samplesAt, gapsAt, howMany, rowsPlaces}
 use Rattle.views.proofs.Views.{samples-many, samples-all, gaps-all, many-all}
 use Rattle.views.proofs.Windows.{Window, window-room, window-many, window-in, window-part, window-put, window-keeps, rows-long, row-window, trues-window}
+use Rattle.lists.specs.Parts.{part}
 
 module _ (places : List Bool) (i j : ℕ) (w : Window places i (true ∷ []) j) (s : List ℕ) (room : length places ≤ length s) where
   inside : i < length s

@@ -8,10 +8,10 @@ use native.Mathlib.Nat.{suc-mul, zero-mul, zero-add, suc-add, add-comm}
 use native.Mathlib.Omega.{arith}
 use lib.ListN.{length, take, drop, replicate, length-append, length-replicate, take-append-drop, replicate-append-replicate}
 use lib.Seq.{take-at, drop-at, length-take-le}
-use Rattle.scope.specs.Base.{part, replaced}
 use Rattle.lists.proofs.Parts.{length-part}
 use Rattle.views.specs.Places.{samplesAt, gapsAt, howMany, rowPlaces, rowsPlaces}
 use Rattle.views.proofs.Views.{samples-append, gaps-append, many-append, samples-many, many-all}
+use Rattle.lists.specs.Parts.{part, replaced}
 
 -- places `own` stand from place `from` on, where `past` samples stand before
 pub record Window (places : List Bool) (from : ℕ) (own : List Bool) (past : ℕ) : Type 0 where

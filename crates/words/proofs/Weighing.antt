@@ -11,10 +11,10 @@ use lib.ListN.{length, getD}
 use borrow.Author.Tests.{le-ltb, ltb-false}
 use Rattle.scope.specs.Words.{longest, shortest, shares, overfull, tooLong, first, need, needFrom}
 use Rattle.scope.specs.Geometry.{lengthsOf}
-use Rattle.scope.specs.Frame.{lengthCheck}
 use Rattle.scope.specs.declared.Geometry.{Geometry}
 use Rattle.scope.specs.declared.Place.{Place}
 use Rattle.scope.specs.declared.Place.the-variants.{Plane}
+use Rattle.scope.specs.Pieces.{lengthCheck}
 use Rattle.lists.proofs.Tests.{which, test-bad, test-good}
 use Rattle.lists.proofs.Powers.{shl-one}
 use Rattle.codes.proofs.Heads.{need-first, need-small, first-small, second-small, none-at-longest}

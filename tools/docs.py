@@ -68,6 +68,7 @@ def counts():
     formats = (ROOT / "host/oracle/tables/00-fourcc-table.csv").read_text().splitlines()
     found = {
         "# crates": len(CRATES),
+        "The # libraries": sum(not (ROOT / f"crates/{c}/src/main.rt").exists() for c in CRATES),
         "# must-fail edits": sum(statements.edits(c) for c in CRATES),
         "# public functions": sum(f.public for f in FUNCTIONS),
         "# tests": tests,

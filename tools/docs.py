@@ -1,15 +1,23 @@
 #!/usr/bin/env python3
 """docs.py: holds README.md, docs/ and host/*.md to what is there.
 
-- Every path that begins with crates/, docs/, host/ or tools/ exists; on a page of host/ also every path that begins with a folder of host/.
+- Every path that begins with crates/, docs/, host/ or tools/ exists; on a page of host/ also every path that begins with a folder of host/, and
+  host/README.md names every folder of host/.
 - Every file of the sources, proofs and tools that is named without its path is there under some path.
-- Every word crate/edit is an edit of that crate, every crate::function a function of it, and every crate or package that a command names is there.
-- Every name in backquotes stands in a source, a specification, a proof, a tool or the host's Rust.
-- The numbers of crates, of edits and of public functions are today's, and README.md's output of demo is what crates/demo/stdout has.
+- Every word crate/edit is an edit of that crate, every crate::function a function of it, and every crate, package or option that a command
+  names is there.
+- Every name in backquotes stands in a source, a specification, a proof, a tool or the host's Rust; and where a place stands behind it in brackets
+  (a crate, a path, a file of crates/scope/specs), or `in` and a path, it stands there.
+- The numbers of crates, edits, public functions, tests, slips, wrong decoders, formats and stored cases are today's, and README.md's output of
+  demo is what crates/demo/stdout has.
+- docs/RED.md's tables of edits of definitions have every edit of those crates.
 - The picture of the crates and the table of `requires` are what tools/picture.py and tools/statements.py make of the sources.
 Notes of a landing (docs/landings/) speak of their day: of them only the paths are checked.
 
-Usage: python3 tools/docs.py, at the repository's root. Prints what is not so; status 1 if anything is not."""
+Usage, at the repository's root:
+  python3 tools/docs.py              prints what is not so; status 1 if anything is not
+  python3 tools/docs.py --unnamed    prints the edits that neither docs/RED.md nor docs/ARCHITECTURE.md names
+"""
 import re
 import subprocess
 import sys
@@ -21,14 +29,12 @@ import statements
 ROOT = Path(__file__).resolve().parent.parent
 CRATES = statements.crates()
 FUNCTIONS = statements.functions()
-COUNTS = {
-    "crates": len(CRATES),
-    "must-fail edits": sum(statements.edits(c) for c in CRATES),
-    "public functions": sum(f.public for f in FUNCTIONS),
-}
 PLACEHOLDERS = ("NAME", "CRATE", "LABEL")
 # Errors of the customer's Rust that nothing here names but pages.
 FOREIGN = {"BadMagic", "DimensionTooLarge", "ZeroDimension"}
+# Options of cargo, valgrind and rustfmt that pages give.
+OPTIONS = {"--release", "--no-deps", "--features", "--tool", "--toggle-collect"}
+WORDS = "zero one two three four five six seven eight nine ten".split()
 
 
 def pages():
@@ -49,9 +55,40 @@ def known():
     return set(re.findall(r"[\w′₀₁₂]+(?:-[\w′₀₁₂]+)*", text)) | labels | files | set(CRATES)
 
 
+def counts():
+    """Phrases of pages in which # stands for a number, and today's number."""
+    rust = {p: p.read_text() for p in (ROOT / "host").rglob("*.rs") if "target" not in p.parts}
+    fences = re.compile(r"(?m)^//[/!] ```(\w*)\n(?://[/!].*\n)*?//[/!] ```$")
+    tests = sum(text.count("#[test]") + fences.findall(text).count("") for text in rust.values())
+    data, cases, at = (ROOT / "crates/replay/data/cases.myrl").read_bytes(), [], 0
+    while at < len(data):
+        case = [int.from_bytes(data[i : i + 4], "little") for i in range(at, at + 76, 4)]
+        cases.append(case)
+        at += 76 + sum(case[15:18])
+    formats = (ROOT / "host/oracle/tables/00-fourcc-table.csv").read_text().splitlines()
+    found = {
+        "# crates": len(CRATES),
+        "The # libraries": sum(not (ROOT / f"crates/{c}/src/main.rt").exists() for c in CRATES),
+        "# must-fail edits": sum(statements.edits(c) for c in CRATES),
+        "# public functions": sum(f.public for f in FUNCTIONS),
+        "# tests": tests,
+        "of # (?:failed|known answers)": rust[ROOT / "host/tests/known.rs"].count("#[test]"),
+        "# slips|All #, as it printed": len(list((ROOT / "host/red/slips").glob("*.edit"))),
+        "# wrong decoders": len(list((ROOT / "host/red").glob("*.c"))),
+        "[Aa]ll # formats": sum(line[0].isalnum() for line in formats) - 1,
+        "# cases|# frames with the oracle": len(cases),
+        "cases, # bytes|cases.myrl, # bytes": len(data),
+        "# accepted over all": sum(case[12] == 0 for case in cases),
+        "# answers are the Rust's whole": sum(case[18] == 0 for case in cases),
+        "# its number with document 01's place": sum(case[18] == 1 for case in cases),
+        "place, # document 01's": sum(case[18] == 2 for case in cases),
+    }
+    return found | {f"`rt must-fail {c}`: # edits": statements.edits(c) for c in CRATES}
+
+
 def paths(page, text):
     missing = []
-    for path in re.findall(r"(?<![\w./-])((?:crates|docs|host|tools)/[\w./-]*\w)", text):
+    for path in re.findall(r"(?<![\w./-])(?:\.\./)?((?:crates|docs|host|tools)/[\w./-]*\w)", text):
         if not (ROOT / path).exists() and not any(w in path for w in PLACEHOLDERS):
             missing.append(path)
     if page.parent == ROOT / "host":
@@ -59,6 +96,8 @@ def paths(page, text):
         for path in re.findall(rf"(?<![\w./-])((?:{folders})/[\w./-]*\w)", text):
             if not (page.parent / path).exists():
                 missing.append(path)
+        if page.name == "README.md":
+            missing += [f"word of the folder {f}" for f in folders.split("|") if f"{f}/" not in text]
     return [f"no {p}" for p in missing]
 
 
@@ -82,7 +121,38 @@ def names(text, words):
             found.append(f"no name {name}")
         if re.fullmatch(r"\w+::\w+", name) and name.split("::")[0] in CRATES and name not in functions:
             found.append(f"no function {name}")
+        error = re.match(r"([A-Z]\w+)(?: \{|\()", name)
+        if error and error[1] not in words | FOREIGN:
+            found.append(f"no name {error[1]}")
     return found
+
+
+def standing(page, text):
+    """Names with the place where they stand behind them: `name`, `name` (place, place), or `name` in `path`."""
+    found = []
+    bracketed = re.findall(r"((?:`[^`\n]+`,? (?:and )?)+)\(([\w/., -]+)[);,]", text)
+    for listed, behind in bracketed + re.findall(r"(`[^`\n]+`) in `([\w/.-]+\.\w+)`", text):
+        there = places(page.parent, behind)
+        inside = "\n".join(map(read, there))
+        for name in re.findall(r"`([\w-]+)`", listed):
+            if there and not re.search(rf"(?<![\w-]){name}(?![\w-])", inside):
+                found.append(f"no {name} in {behind}")
+    return found
+
+
+def places(folder, text):
+    """What the words in a bracket name: crates, paths, files beside the path before them, or files of crates/scope/specs."""
+    found = []
+    for word in re.split(r", (?:and )?| and ", text):
+        options = [ROOT / "crates" / word] if word in CRATES else [folder / word, ROOT / word] if "/" in word else []
+        options += [ROOT / f"crates/scope/specs/{word}.antt"] + [path.parent / word for path in found[-1:] if "." in word]
+        found += [path for path in options if path.exists()][:1]
+    return found
+
+
+def read(path):
+    files = [path] if path.is_file() else [p for p in path.rglob("*") if p.suffix in (".rt", ".antt")]
+    return "\n".join(p.read_text() for p in files)
 
 
 def commands(text):
@@ -90,16 +160,39 @@ def commands(text):
     for words in re.findall(r"`rt (?:check|must-fail|try|staticlib|dev) ([a-z0-9 ]+)`", text):
         found += [f"no crate {w}" for w in words.split() if w not in CRATES]
     packages = re.findall(r'name = "([\w-]+)"', texts("host", (".toml",)))
-    return found + [f"no package {p}" for p in re.findall(r"cargo [^`\n]*-p ([\w-]+)", text) if p not in packages]
+    found += [f"no package {p}" for p in re.findall(r"cargo [^`\n]*-p ([\w-]+)", text) if p not in packages]
+    sources = texts("host", (".rs", ".py", ".sh")) + texts("tools", (".py",))
+    return found + [f"no option {o}" for o in re.findall(r"(?<![\w-])--[a-z][a-z-]+", text) if o not in OPTIONS and not re.search(rf"{o}(?![\w-])", sources)]
 
 
-def numbers(text):
+def numbers(text, today):
     found = []
-    for what, count in COUNTS.items():
-        for said in re.findall(rf"([\d,]*\d) {what}", text):
-            if int(said.replace(",", "")) != count:
-                found.append(f"{said} {what}, and there are {count}")
+    for phrase, count in today.items():
+        number = rf"(\d[\d,]*|{'|'.join(WORDS)})" if "decoders" in phrase or "`" in phrase else r"(\d[\d,]*)"
+        for m in re.finditer(phrase.replace("#", number), text):
+            said = next(g for g in m.groups() if g)
+            if (WORDS.index(said) if said in WORDS else int(said.replace(",", ""))) != count:
+                found.append(f"{' '.join(m[0].split())}, and there are {count}")
     return found
+
+
+def rows(text):
+    """docs/RED.md: its tables of edits of definitions, against the edits of the crates that they name."""
+    found = []
+    for title, crate in (("## Definitions (crate `scope`)", "scope"), ("## Definitions that only proofs use", None)):
+        listed = re.findall(r"(?m)^\| ([a-z0-9_/]+) \|", text.split(title)[1].split("\n## ")[0])
+        named = {f"{crate}/{n}" if crate else n for n in listed}
+        there = {f"{p.parts[-3]}/{p.stem}" for p in (ROOT / "crates").glob("*/must-fail/*.edit") if p.parts[-3] in {n.split("/")[0] for n in named}}
+        found += [f"no edit {n}" for n in sorted(named - there)] + [f"no row of the edit {n}" for n in sorted(there - named)]
+    return found
+
+
+def unnamed():
+    text = (ROOT / "docs/RED.md").read_text() + (ROOT / "docs/ARCHITECTURE.md").read_text()
+    there = [(p.parts[-3], p.stem) for p in sorted((ROOT / "crates").glob("*/must-fail/*.edit"))]
+    without = [f"{c}/{e}" for c, e in there if not re.search(rf"\b{c}/{e}\b", text) and not (c == "scope" and f"\n| {e} |" in text)]
+    print("\n".join(without + [f"{len(without)} of {len(there)} edits are not named"]))
+    return 0
 
 
 def shown(text):
@@ -110,15 +203,19 @@ def shown(text):
 
 
 def main():
-    wrong, words = [], known()
+    if "--unnamed" in sys.argv:
+        return unnamed()
+    wrong, words, today = [], known(), counts()
     there = {p.name for folder in ("crates", "host", "tools") for p in (ROOT / folder).rglob("*")}
     for page in pages():
         text = page.read_text()
         found = paths(page, text)
         if "landings" not in page.parts:
-            found += files(text, there) + edits(text) + names(text, words) + commands(text) + numbers(text)
+            found += files(text, there) + edits(text) + names(text, words) + standing(page, text) + commands(text) + numbers(text, today)
         if page.name == "README.md" and page.parent == ROOT:
             found += shown(text)
+        if page.name == "RED.md":
+            found += rows(text)
         wrong += [f"{page.relative_to(ROOT)}: {what}" for what in found]
     for tool in (["picture.py"], ["statements.py", "--page"]):
         ran = subprocess.run([sys.executable, ROOT / "tools" / tool[0], *tool[1:]], capture_output=True, text=True)

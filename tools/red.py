@@ -7,9 +7,10 @@ Usage, at the repository's root, after the gate:
   python3 tools/red.py --functions    prints, for each public function, the edits that stand in its own text
 A crate's name after either keeps it to that crate.
 
-Every log is read to its end. A row says WRONG REASON where the first error is that the code no longer has the shape of its proof: such an
-edit shows nothing and must be mended. Where a later error says that, the row says so behind the first. Status 1 if a row has the wrong
-reason, or if an edit's old text does not stand exactly once in its file.
+Every log is read to its end. A row says WRONG REASON where any line of it says that the code no longer has the shape of its proof (it has no
+`Need-..`), or any error that a name is not in scope: such an edit shows nothing and must be mended. A row says STALE where an edit's old text
+does not stand exactly once in its file, and NO LOG, NO VERDICT or NO REASON where a log, its last line or every error is missing. Status 1 if
+there is such a row.
 """
 import re
 import sys
@@ -19,6 +20,7 @@ ROOT = Path(__file__).resolve().parent.parent
 ONLY = [a for a in sys.argv[1:] if not a.startswith("-")]
 ERROR = re.compile(r"/(?:proofs|specs|src)/(\S+?):\d+:\d+: error: (.*)")
 ALONE = re.compile(r"fn \w+::(\S+): no proof: .*?`search` does not close (`[^`]+`)")
+WRONG = re.compile(r"has no `Need|: error: .*` is not in scope(?! here)")
 
 
 def crates():
@@ -55,25 +57,27 @@ def errors(log):
     return found
 
 
-def said(crate, label):
-    """What a log says first, and whether anything in it says that the code's shape changed."""
-    path = ROOT / "target/must-fail" / crate / label / ".log"
-    if not path.exists():
-        return "(no log)"
-    log = path.read_text(errors="replace")
-    found = errors(log)
-    shape = ["has no `Need" in words for _, words in found]
-    alone = ALONE.search(log)
-    if shape and shape[0]:
-        return f"WRONG REASON: {found[0][0]}: {found[0][1]}"
+def first(log):
+    """What a log says first."""
+    found, alone = errors(log), ALONE.search(log)
     # Of a function without a proof file its callers' files are named first; the line that matters is the function's own.
     if alone and (not found or "was not admitted" in found[0][1]):
-        first = f"{alone.group(1)}: {alone.group(2)}: `search` finds no proof"
-    elif found:
-        first = f"{found[0][0]}: {found[0][1]}"
-    else:
-        return "refused, and the log says no reason"
-    return first + (" (and further down that the code's shape changed)" if any(shape) else "")
+        return f"{alone.group(1)}: {alone.group(2)}: `search` finds no proof"
+    return f"{found[0][0]}: {found[0][1]}" if found else "NO REASON"
+
+
+def said(crate, label):
+    """What a log says first; before it, what is wrong with it anywhere from its first line to its last."""
+    path = ROOT / "target/must-fail" / crate / label / ".log"
+    if not path.exists():
+        return "NO LOG"
+    log = path.read_text(errors="replace")
+    if not re.search(r"(?m)^logic=not-proved$", log):
+        return f"NO VERDICT: {first(log)}"
+    wrong = next((line for line in log.splitlines() if WRONG.search(line)), None)
+    if wrong is None:
+        return first(log)
+    return f"WRONG REASON: {': '.join(errors(wrong)[0]) if errors(wrong) else wrong.strip()}; first: {first(log)}"
 
 
 # ---- the tables
@@ -95,7 +99,7 @@ def tables():
             times = stands(crate, file, old)
             if times != 1:
                 words = f"STALE: its old text stands {times} times; {words}"
-            fine = fine and not words.startswith(("STALE", "WRONG"))
+            fine = fine and not words.startswith(("STALE", "WRONG", "NO "))
             print(f"| {label} | {file} | `{cell(old)}` | `{cell(new)}` | {cell(words)} |")
     return fine
 

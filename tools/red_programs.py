@@ -2,12 +2,13 @@
 """red_programs.py: sees the programs demo and replay fail.
 
 Each row below changes a copy of the repository, in a temporary folder, and runs programs of it. A wrong decoder is not proved, so it is run by
-`rt try`, which proves nothing: on the interpreter and compiled. A spoiled file is run by `rt check`. Every row must end with a status other than 0,
-but for the last but one. The last two show what the memory set first is worth: with what it must hold afterwards already lying there (the customer's
-power-on test once did that) the right decoder passes, and most cases pass the decoder that writes nothing.
+`rt try`, which proves nothing: on the interpreter and compiled. A spoiled file is run by `rt check`. Every row must end with status 1 and the last
+but one with status 0 (2 would say that the copy does not even compile), and must say the words that stand in it below. The last two show what the
+memory set first is worth: with what it must hold afterwards already lying there (the customer's power-on test once did that) the right decoder
+passes, and most cases pass the decoder that writes nothing.
 
 Usage, at the repository's root, after `rt check`: python3 tools/red_programs.py [WORD..], a word choosing the rows that have it in their name.
-Status 0 when every row is as it should be.
+Status 0 when every row is as it should be, and there is one.
 """
 import re
 import shutil
@@ -85,16 +86,16 @@ def sample(data):
     return 76 + int.from_bytes(data[60:64], "little")
 
 
-# name, edits, verb, programs, and what must come of it: a failure, none, or a failure that says so
+# name, edits, verb, the status that must come of it, and for each program the words that it must say
 ROWS = [
-    ("writes nothing and trusts old memory", WRITES_NOTHING, "try", ["demo", "replay"], True),
-    ("does not clear after a refusal", NO_CLEARING, "try", ["demo", "replay"], True),
-    ("the list: case 0 expects refusal 13", [byte(LIST, lambda d: NUMBER, lambda d: 13)], "check", ["replay"], True),
-    ("the list: case 0 expects another sample", [byte(LIST, sample, lambda d: d[sample(d)] ^ 1)], "check", ["replay"], True),
-    ("demo expects another sample", [swap("crates/demo/stdout", "U: 128 127", "U: 128 126")], "check", ["demo"], True),
-    ("demo expects another refusal", [swap("crates/demo/stdout", "entry 1 of 9: refusal 6", "entry 1 of 9: refusal 7")], "check", ["demo"], True),
-    ("memory holds the answer, the right decoder", HOLDS_THE_ANSWER, "try", ["replay"], False),
-    ("memory holds the answer, writes nothing", WRITES_NOTHING + HOLDS_THE_ANSWER, "try", ["replay"], "`65 wrong"),
+    ("writes nothing and trusts old memory", WRITES_NOTHING, "try", 1, {"demo": "found `170 170", "replay": "found `198 wrong"}),
+    ("does not clear after a refusal", NO_CLEARING, "try", 1, {"demo": "found `170 170", "replay": "found `184 wrong"}),
+    ("the list: case 0 expects refusal 13", [byte(LIST, lambda d: NUMBER, lambda d: 13)], "check", 1, {"replay": "'stdout' differ"}),
+    ("the list: case 0 expects another sample", [byte(LIST, sample, lambda d: d[sample(d)] ^ 1)], "check", 1, {"replay": "'stdout' differ"}),
+    ("demo expects another sample", [swap("crates/demo/stdout", "U: 128 127", "U: 128 126")], "check", 1, {"demo": "'stdout' differ"}),
+    ("demo expects another refusal", [swap("crates/demo/stdout", "entry 1 of 9: refusal 6", "entry 1 of 9: refusal 7")], "check", 1, {"demo": "'stdout' differ"}),
+    ("memory holds the answer, the right decoder", HOLDS_THE_ANSWER, "try", 0, {"replay": "wrote what its 'stdout' has"}),
+    ("memory holds the answer, writes nothing", WRITES_NOTHING + HOLDS_THE_ANSWER, "try", 1, {"replay": "found `65 wrong"}),
 ]
 
 
@@ -109,7 +110,7 @@ def said(text):
     return text.strip().splitlines()[-1][:160] if text.strip() else ""
 
 
-def run(name, edits, verb, program, must):
+def run(name, edits, verb, status, program, words):
     with tempfile.TemporaryDirectory() as folder:
         copy = Path(folder) / "copy"
         copy.mkdir()
@@ -121,18 +122,15 @@ def run(name, edits, verb, program, must):
             edit(copy)
         ran = subprocess.run(["rt", verb, program], cwd=copy, capture_output=True, text=True)
         out = (ran.stdout + ran.stderr).replace(str(copy) + "/", "")
-        right = (ran.returncode != 0) == bool(must) and (must in said(out) if isinstance(must, str) else True)
+        right = ran.returncode == status and words in said(out)
         print(f"{'' if right else 'NOT AS IT SHOULD BE: '}{name} | rt {verb} {program} | status {ran.returncode} | {said(out)}", flush=True)
         return right
 
 
 def main():
     rows = [r for r in ROWS if all(w in r[0] for w in sys.argv[1:])]
-    fine = True
-    for name, edits, verb, programs, must in rows:
-        for program in programs:
-            fine = run(name, edits, verb, program, must) and fine
-    sys.exit(0 if fine else 1)
+    fine = [run(name, edits, verb, status, *one) for name, edits, verb, status, programs in rows for one in programs.items()]
+    sys.exit(0 if fine and all(fine) else 1)
 
 
 main()

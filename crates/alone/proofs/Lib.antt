@@ -1,4 +1,3 @@
 pub mod Building
 pub mod Reading
-pub mod Demand
 pub mod Once

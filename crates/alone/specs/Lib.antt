@@ -1,2 +1,1 @@
 pub mod Built
-pub mod Demand

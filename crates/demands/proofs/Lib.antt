@@ -1,1 +1,5 @@
+pub mod Replies
+pub mod Frames
+pub mod Tables
+pub mod Readings
 pub mod Demand

@@ -1,20 +1,413 @@
--- Demand 2, said of one call of a frame entry. proofs/Demand.antt proves it, and demand 1 (`Accounted` and `Forgotten` of crate
--- refusals), of every call that the contracts of decode8 and decode16 allow. Assumes nothing.
+-- The customer's three demands, in one file, of every function that a host can call: the frame entries `decode8` and `decode16`, a table by itself
+-- (`build`), the lookup in it (`lookup`), a reading by itself (`read`), and the four that are exported. First what a call is, by name; then what is
+-- demanded of a call; then the calls that each function's contract allows; last, `Demands`: all of them meet the demands, which
+-- proofs/Demand.antt proves (`demands`). A demand's own words stand between “ and ”, document 01's between quotation marks. What is named and
+-- not defined here is document 01, as crates/scope/specs has it. Assumes nothing.
 use mathlib.Core.Path.{_≡_}
-use mathlib.Core.Bool.{Bool}
-use Rattle.scope.specs.Refusals.{numberOf, placeOf}
-use Rattle.scope.specs.declared.Answer.the-variants.{Done}
-use Rattle.refusals.specs.Memory.{Call, answerTo, pictureFor}
+use mathlib.Core.Logic.{_↔_}
+use Prim.Native.Nat.{ℕ, _-_, _/_, _^_, _≤_, _<_}
+use mathlib.Core.Bool.{Bool, true, not}
+use mathlib.Core.List.{List, _∷_}
+use lib.ListN.{length, drop}
+use contract.Lifetimes.{Lfts}
+use borrow.Fn.World.{ArgsD, ResD}
+use denote.Triple.Clauses.{AtExit}
+use denote.Ref.{now}
+use Rattle.scope.specs.Base.{Bytes, Lengths, Samples, Words, zeros}
+use Rattle.scope.specs.Refusals.{numberOf, placeOf, kindNumber, placeNumber, Row, row, firstOf, NoneApplies, FirstApplies}
+use Rattle.scope.specs.Words.{shares, need, longest, lengthOf, wordOf, Begins, Spells}
+use Rattle.scope.specs.Frame.{table, pictureOf}
+use Rattle.scope.specs.Alone.{buildRows, readRowsAlone}
+use Rattle.scope.specs.declared.Entry.{Entry}
+use Rattle.scope.specs.declared.Entry.the-variants.{Eight, Deep}
+use Rattle.scope.specs.declared.Geometry.{Geometry}
+use Rattle.scope.specs.declared.Place.{Place}
+use Rattle.scope.specs.declared.Place.the-variants.{Nothing}
+use Rattle.scope.specs.declared.Found.{Found}
+use Rattle.scope.specs.declared.Found.the-variants.{Word, NoWord}
+use Rattle.scope.specs.declared.Answer.{Answer}
+use Rattle.scope.specs.declared.Answer.the-variants.{Done, Refused}
+use Rattle.magicyuv.specs.declared.Reply.{Reply}
+use Rattle.magicyuv.specs.Boundary.{Numbers, numbers, numbersFit, geometryOf, Says}
+use Rattle.decode8.proofs.decode8 as entry8
+use Rattle.decode8.proofs.decode8.Reads as entry8-reads
+use Rattle.decode16.proofs.decode16 as entry16
+use Rattle.decode16.proofs.decode16.Reads as entry16-reads
+use Rattle.alone.proofs.build as building
+use Rattle.alone.proofs.build.Reads as building-reads
+use Rattle.alone.proofs.read as reading
+use Rattle.alone.proofs.read.Reads as reading-reads
+use Rattle.lookup.proofs.lookup as looking
+use Rattle.lookup.proofs.lookup.Reads as looking-reads
+use Rattle.magicyuv.proofs.magicyuv_decode8 as host8
+use Rattle.magicyuv.proofs.magicyuv_decode8.Reads as host8-reads
+use Rattle.magicyuv.proofs.magicyuv_decode16 as host16
+use Rattle.magicyuv.proofs.magicyuv_decode16.Reads as host16-reads
+use Rattle.magicyuv.proofs.magicyuv_build as host-build
+use Rattle.magicyuv.proofs.magicyuv_build.Reads as host-build-reads
+use Rattle.magicyuv.proofs.magicyuv_read as host-read
+use Rattle.magicyuv.proofs.magicyuv_read.Reads as host-read-reads
 
--- ---- demand 2: planes and refusals equal the definitions written from document 01
+-- ---- what a call is
 
-pub record AsDefined (which : Entry) (c : Call) : Type 0 where
-  -- planes or a refusal, and which number
-  pub answer : c .answer ≡ answerTo which c
-  pub number : numberOf (c .answer) ≡ numberOf (answerTo which c)
-  -- the slice or plane that a refusal names, or nothing
-  pub place : placeOf (c .answer) ≡ placeOf (answerTo which c)
-  -- where planes are handed out they are the picture, every sample of it
-  pub planes : c .answer ≡ Done → c .planes₁ ≡ pictureFor c
+-- An answer as the host gets it: document 01's number, 0 where nothing is refused; the kind of its place, 0 nothing, 1 a slice, 2 a plane; and which
+-- one. The exported functions reply this; of the others it is what their answer says.
+abbrev pub replyTo : (answer : Answer) → Reply
+replyTo a = record { number = numberOf a; kind = kindNumber (placeOf a); place = placeNumber (placeOf a) }
+
+-- a call of a frame entry: what was lent to it, as it was found; what it replied; what it left
+pub record FrameCall : Type 0 where
+  pub which : Entry
+  -- the numbers of the geometry name a family, and 0 or 1 for interlaced; a geometry record always does
+  pub named : Bool
+  pub frame : Bytes
+  pub geometry : Geometry
+  pub lengths : Lengths
+  pub planes₀ : Samples
+  pub workspace₀ : Words
+  pub reply : Reply
+  pub planes₁ : Samples
+  pub workspace₁ : Words
+
+-- of a table by itself
+pub record TableCall : Type 0 where
+  pub lengths : Lengths
+  pub workspace₀ : Words
+  pub reply : Reply
+  pub workspace₁ : Words
+
+-- of the lookup in one
+pub record LookupCall : Type 0 where
+  pub words : Words
+  pub longest : ℕ
+  pub payload : Bytes
+  pub at : ℕ
+  pub found : Found
+
+-- of a reading by itself
+pub record ReadCall : Type 0 where
+  pub lengths : Lengths
+  pub payload : Bytes
+  pub workspace₀ : Words
+  pub samples₀ : Samples
+  pub reply : Reply
+  pub workspace₁ : Words
+  pub samples₁ : Samples
+
+-- ---- exactly when
+
+-- A reply goes by a table of rows: 0 exactly when no row applies; a refusal's number and place exactly when a row with that number and place applies and
+-- no row before it does; and no number is above 15, so that 0 means success and nothing else does.
+pub record ByTable (rows : List Row) (reply : Reply) : Type 0 where
+  pub success : (reply .number ≡ 0) ↔ NoneApplies rows
+  pub refused : (n : ℕ) (p : Place) → 1 ≤ n → Says (Refused n p) reply ↔ FirstApplies rows n p
+  pub most : reply .number ≤ 15
+
+-- ---- demand 1
+
+-- document 01's table for what was lent; to "geometry outside the rules above" belong numbers that name none
+abbrev pub tableFor : (c : FrameCall) → List Row
+tableFor c =
+    row 1 Nothing (not (c .named))
+    ∷ table (c .which) (c .frame) (c .geometry) (c .lengths) (length (c .planes₀)) (length (c .workspace₀))
+
+-- the picture that document 01 defines for it
+abbrev pub pictureFor : (c : FrameCall) → Samples
+pictureFor c = pictureOf (c .frame) (c .geometry) (c .lengths)
+
+pub record Demand1 (c : FrameCall) : Type 0 where
+  -- “Planes, or one of the numbered refusals exactly when document 01 says.”
+  pub exactly : ByTable (tableFor c) (c .reply)
+  -- "Success leaves the workspace zero and defines every sample."
+  pub success : c .reply .number ≡ 0 → (c .planes₁ ≡ pictureFor c) × (c .workspace₁ ≡ zeros (c .workspace₀))
+  -- “Refusals 1 to 4 leave planes and workspace as found,”
+  pub found : 1 ≤ c .reply .number → c .reply .number ≤ 4 → (c .planes₁ ≡ c .planes₀) × (c .workspace₁ ≡ c .workspace₀)
+  -- “any other leaves both all zero;”
+  pub cleared : 4 < c .reply .number → (c .planes₁ ≡ zeros (c .planes₀)) × (c .workspace₁ ≡ zeros (c .workspace₀))
+
+-- two calls that were lent the same frame, geometry and lengths, and memory of the same size, whatever it held
+pub record LentAlike (c d : FrameCall) : Type 0 where
+  pub which : c .which ≡ d .which
+  pub named : c .named ≡ d .named
+  pub frame : c .frame ≡ d .frame
+  pub geometry : c .geometry ≡ d .geometry
+  pub lengths : c .lengths ≡ d .lengths
+  pub planes : length (c .planes₀) ≡ length (d .planes₀)
+  pub workspace : length (c .workspace₀) ≡ length (d .workspace₀)
+
+-- they end alike
+pub record SameEnd (c d : FrameCall) : Type 0 where
+  pub reply : c .reply ≡ d .reply
+  pub planes : c .planes₁ ≡ d .planes₁
+  pub workspace : c .workspace₁ ≡ d .workspace₁
+
+pub record Forgotten (c d : FrameCall) : Type 0 where
+  -- “what they held before changes no answer”
+  pub reply : c .reply ≡ d .reply
+  -- “and, except after 1 to 4, nothing left in them.”
+  pub success : c .reply .number ≡ 0 → SameEnd c d
+  pub cleared : 4 < c .reply .number → SameEnd c d
+  -- and after these too where they held the same: no other outcome is allowed
+  pub only : c .planes₀ ≡ d .planes₀ → c .workspace₀ ≡ d .workspace₀ → SameEnd c d
+
+-- ---- demand 2
+
+pub record Demand2 (c : FrameCall) : Type 0 where
+  -- “Planes and refusals .. are proved equal to definitions written from that document”: number and place of the answer
+  pub reply : c .reply ≡ replyTo (firstOf (tableFor c))
+  -- the planes, wherever they are handed out
+  pub planes : c .reply .number ≡ 0 → c .planes₁ ≡ pictureFor c
   -- and they are handed out wherever document 01 refuses nothing
-  pub handed : answerTo which c ≡ Done → (c .answer ≡ Done) × (c .planes₁ ≡ pictureFor c)
+  pub handed : firstOf (tableFor c) ≡ Done → (c .reply .number ≡ 0) × (c .planes₁ ≡ pictureFor c)
+
+-- ---- demand 3
+
+-- the lengths of a code that can be built: refusals 4 and 9 do not apply
+pub record InCaps (ls : Lengths) : Type 0 where
+  pub few : length ls ≤ 16384
+  pub small : (s : ℕ) → s < length ls → lengthOf ls s ≤ 18
+
+pub record Demand3Table (c : TableCall) : Type 0 where
+  -- "A table built by itself is refused for more than 16,384 lengths by 4, then by 9, 10 and 11"
+  pub exactly : ByTable (buildRows (c .lengths) (length (c .workspace₀))) (c .reply)
+  -- “A table is built exactly when the shares total at most one;”
+  pub built : InCaps (c .lengths) → need (c .lengths) ≤ length (c .workspace₀) → (c .reply .number ≡ 0) ↔ (shares (c .lengths) ≤ 262144)
+  -- of whatever lengths and workspace: built, hence shares at most one
+  pub full : c .reply .number ≡ 0 → shares (c .lengths) ≤ 262144
+  -- “the longest-first words are then prefix-free;” each word is a number of as many bits as it has, and begins no other symbol's word
+  pub fits : c .reply .number ≡ 0 → (s : ℕ) → s < length (c .lengths) → 0 < lengthOf (c .lengths) s → wordOf (c .lengths) s < 2 ^ lengthOf (c .lengths) s
+  pub free : c .reply .number ≡ 0 → (s t : ℕ) → s < length (c .lengths) → t < length (c .lengths) → 0 < lengthOf (c .lengths) s
+      → lengthOf (c .lengths) s ≤ lengthOf (c .lengths) t
+      → wordOf (c .lengths) t / 2 ^ (lengthOf (c .lengths) t - lengthOf (c .lengths) s) ≡ wordOf (c .lengths) s → s ≡ t
+  -- "and each leaves the workspace as found. Success leaves the words past the need as found"
+  pub found : 1 ≤ c .reply .number → c .workspace₁ ≡ c .workspace₀
+  pub past : c .reply .number ≡ 0 → drop (need (c .lengths)) (c .workspace₁) ≡ drop (need (c .lengths)) (c .workspace₀)
+
+-- "From these and m alone, without the lengths, the lookup finds at a payload's bit position the word that the bits there begin with, its length and
+-- symbol, or none": a lookup in what a table by itself left
+pub record Usable (c : TableCall) (l : LookupCall) : Type 0 where
+  pub word : (n s : ℕ) → (l .found ≡ Word n s) ↔ (Begins (c .lengths) (l .payload) (l .at) s × (n ≡ lengthOf (c .lengths) s))
+  pub none : (l .found ≡ NoWord) ↔ ((s : ℕ) → Begins (c .lengths) (l .payload) (l .at) s → ⊥)
+
+-- the payload's bits, continued with zeros, begin with a chain of n words: their symbols are ss
+pub record ChainOf (ls : Lengths) (payload : Bytes) (n : ℕ) (ss : Samples) : Type 0 where
+  pub long : length ss ≡ n
+  pub spelt : Spells ls payload 0 ss
+
+pub record Demand3Reading (c : ReadCall) : Type 0 where
+  -- "builds first, with those refusals, and 4 also for more than 268,435,456 samples"; "A failed word gives 14"
+  pub exactly : ByTable (readRowsAlone (c .lengths) (c .payload) (length (c .samples₀)) (length (c .workspace₀))) (c .reply)
+  -- “reading n samples succeeds exactly when the zero-continued bits begin with a chain of n words;”
+  pub succeeds : InCaps (c .lengths) → shares (c .lengths) ≤ 262144 → need (c .lengths) ≤ length (c .workspace₀) → length (c .samples₀) ≤ 268435456
+      → (c .reply .number ≡ 0) ↔ ((ss : Samples) × ChainOf (c .lengths) (c .payload) (length (c .samples₀)) ss)
+  -- “that chain is the only one,”
+  pub only : (ss ts : Samples) → ChainOf (c .lengths) (c .payload) (length (c .samples₀)) ss → ChainOf (c .lengths) (c .payload) (length (c .samples₀)) ts → ss ≡ ts
+  -- “and its symbols are the samples.”
+  pub hands : c .reply .number ≡ 0 → ChainOf (c .lengths) (c .payload) (length (c .samples₀)) (c .samples₁)
+  -- of whatever lengths and workspace: read, hence shares at most one
+  pub full : c .reply .number ≡ 0 → shares (c .lengths) ≤ 262144
+  -- the refusals before the reading "leave buffer and workspace as found"; 14 "leaves both wholly zero; success leaves the workspace zero"
+  pub found : 1 ≤ c .reply .number → c .reply .number ≤ 11 → (c .samples₁ ≡ c .samples₀) × (c .workspace₁ ≡ c .workspace₀)
+  pub cleared : 11 < c .reply .number → (c .samples₁ ≡ zeros (c .samples₀)) × (c .workspace₁ ≡ zeros (c .workspace₀))
+  pub clears : c .reply .number ≡ 0 → c .workspace₁ ≡ zeros (c .workspace₀)
+
+-- ---- the calls that the contracts allow: `Post` is the plain reading that Rattle itself makes of the `ensures` clauses of src/, so nothing here goes
+-- by another copy of a contract
+
+pub data FrameEntry : Type 0 where
+  decode8 : FrameEntry
+  decode16 : FrameEntry
+  magicyuv-decode8 : FrameEntry
+  magicyuv-decode16 : FrameEntry
+
+-- the calls that their contracts allow
+pub record Decode8 : Type 1 where
+  pub lifetimes : Lfts 4
+  pub lent : ArgsD entry8.signature lifetimes
+  pub answer : ResD entry8.signature lifetimes
+  pub left : AtExit entry8.ended lifetimes
+  pub allowed : entry8-reads.Post lifetimes lent answer left
+
+pub record Decode16 : Type 1 where
+  pub lifetimes : Lfts 4
+  pub lent : ArgsD entry16.signature lifetimes
+  pub answer : ResD entry16.signature lifetimes
+  pub left : AtExit entry16.ended lifetimes
+  pub allowed : entry16-reads.Post lifetimes lent answer left
+
+pub record Host8 : Type 1 where
+  pub lifetimes : Lfts 4
+  pub lent : ArgsD host8.signature lifetimes
+  pub answer : ResD host8.signature lifetimes
+  pub left : AtExit host8.ended lifetimes
+  pub allowed : host8-reads.Post lifetimes lent answer left
+
+pub record Host16 : Type 1 where
+  pub lifetimes : Lfts 4
+  pub lent : ArgsD host16.signature lifetimes
+  pub answer : ResD host16.signature lifetimes
+  pub left : AtExit host16.ended lifetimes
+  pub allowed : host16-reads.Post lifetimes lent answer left
+
+abbrev pub FrameAllowed : (f : FrameEntry) → Type 1
+FrameAllowed decode8 = Decode8
+FrameAllowed decode16 = Decode16
+FrameAllowed magicyuv-decode8 = Host8
+FrameAllowed magicyuv-decode16 = Host16
+
+-- their parameters in order, by name
+module _ (κs : Lfts 4) where
+  abbrev pub call8 : (a : ArgsD entry8.signature κs) (r : ResD entry8.signature κs) (s : AtExit entry8.ended κs) → FrameCall
+  call8 (frame, (geometry, (lengths, (planes, (workspace, end))))) r (frame′, (geometry′, (lengths′, (planes′, (workspace′, end′))))) =
+      record {
+        which = Eight;
+        named = true;
+        frame = now frame;
+        geometry = geometry;
+        lengths = now lengths;
+        planes₀ = now planes;
+        workspace₀ = now workspace;
+        reply = replyTo r;
+        planes₁ = now planes′;
+        workspace₁ = now workspace′;
+      }
+
+  abbrev pub call16 : (a : ArgsD entry16.signature κs) (r : ResD entry16.signature κs) (s : AtExit entry16.ended κs) → FrameCall
+  call16 (frame, (geometry, (lengths, (planes, (workspace, end))))) r (frame′, (geometry′, (lengths′, (planes′, (workspace′, end′))))) =
+      record {
+        which = Deep;
+        named = true;
+        frame = now frame;
+        geometry = geometry;
+        lengths = now lengths;
+        planes₀ = now planes;
+        workspace₀ = now workspace;
+        reply = replyTo r;
+        planes₁ = now planes′;
+        workspace₁ = now workspace′;
+      }
+
+-- a call of an exported entry, from the numbers of its geometry
+abbrev pub hosted : (which : Entry) (frame : Bytes) (n : Numbers) (lengths : Lengths) (planes₀ : Samples) (workspace₀ : Words) (reply : Reply) (planes₁ : Samples) (workspace₁ : Words) → FrameCall
+hosted which frame n lengths planes₀ workspace₀ reply planes₁ workspace₁ =
+    record {
+      which = which;
+      named = numbersFit n;
+      frame = frame;
+      geometry = geometryOf n;
+      lengths = lengths;
+      planes₀ = planes₀;
+      workspace₀ = workspace₀;
+      reply = reply;
+      planes₁ = planes₁;
+      workspace₁ = workspace₁;
+    }
+
+module _ (κs : Lfts 4) where
+  abbrev pub callHost8 : (a : ArgsD host8.signature κs) (r : ResD host8.signature κs) (s : AtExit host8.ended κs) → FrameCall
+  callHost8 (frame, (lengths, (planes, (workspace, (w, (h, (sh, (f, (sx, (sy, (d, (i, end)))))))))))) r (frame′, (lengths′, (planes′, (workspace′, end′)))) =
+      hosted Eight (now frame) (numbers w h sh f sx sy d i) (now lengths) (now planes) (now workspace) r (now planes′) (now workspace′)
+
+  abbrev pub callHost16 : (a : ArgsD host16.signature κs) (r : ResD host16.signature κs) (s : AtExit host16.ended κs) → FrameCall
+  callHost16 (frame, (lengths, (planes, (workspace, (w, (h, (sh, (f, (sx, (sy, (d, (i, end)))))))))))) r (frame′, (lengths′, (planes′, (workspace′, end′)))) =
+      hosted Deep (now frame) (numbers w h sh f sx sy d i) (now lengths) (now planes) (now workspace) r (now planes′) (now workspace′)
+
+abbrev pub frameCall : (f : FrameEntry) (c : FrameAllowed f) → FrameCall
+frameCall decode8 c = call8 (c .lifetimes) (c .lent) (c .answer) (c .left)
+frameCall decode16 c = call16 (c .lifetimes) (c .lent) (c .answer) (c .left)
+frameCall magicyuv-decode8 c = callHost8 (c .lifetimes) (c .lent) (c .answer) (c .left)
+frameCall magicyuv-decode16 c = callHost16 (c .lifetimes) (c .lent) (c .answer) (c .left)
+
+pub data TableEntry : Type 0 where
+  build : TableEntry
+  magicyuv-build : TableEntry
+
+pub record Build : Type 1 where
+  pub lifetimes : Lfts 2
+  pub lent : ArgsD building.signature lifetimes
+  pub answer : ResD building.signature lifetimes
+  pub left : AtExit building.ended lifetimes
+  pub allowed : building-reads.Post lifetimes lent answer left
+
+pub record HostBuild : Type 1 where
+  pub lifetimes : Lfts 2
+  pub lent : ArgsD host-build.signature lifetimes
+  pub answer : ResD host-build.signature lifetimes
+  pub left : AtExit host-build.ended lifetimes
+  pub allowed : host-build-reads.Post lifetimes lent answer left
+
+abbrev pub TableAllowed : (f : TableEntry) → Type 1
+TableAllowed build = Build
+TableAllowed magicyuv-build = HostBuild
+
+module _ (κs : Lfts 2) where
+  abbrev pub callBuild : (a : ArgsD building.signature κs) (r : ResD building.signature κs) (s : AtExit building.ended κs) → TableCall
+  callBuild (lengths, (workspace, end)) r (lengths′, (workspace′, end′)) =
+      record { lengths = now lengths; workspace₀ = now workspace; reply = replyTo r; workspace₁ = now workspace′ }
+
+  abbrev pub callHostBuild : (a : ArgsD host-build.signature κs) (r : ResD host-build.signature κs) (s : AtExit host-build.ended κs) → TableCall
+  callHostBuild (lengths, (workspace, end)) r (lengths′, (workspace′, end′)) =
+      record { lengths = now lengths; workspace₀ = now workspace; reply = r; workspace₁ = now workspace′ }
+
+abbrev pub tableCall : (f : TableEntry) (c : TableAllowed f) → TableCall
+tableCall build c = callBuild (c .lifetimes) (c .lent) (c .answer) (c .left)
+tableCall magicyuv-build c = callHostBuild (c .lifetimes) (c .lent) (c .answer) (c .left)
+
+pub record Lookup : Type 1 where
+  pub lifetimes : Lfts 2
+  pub lent : ArgsD looking.signature lifetimes
+  pub answer : ResD looking.signature lifetimes
+  pub left : AtExit looking.ended lifetimes
+  pub allowed : looking-reads.Post lifetimes lent answer left
+
+abbrev pub callLookup : (κs : Lfts 2) (a : ArgsD looking.signature κs) (r : ResD looking.signature κs) → LookupCall
+callLookup κs (words, (m, (payload, (at, end)))) r = record { words = now words; longest = m; payload = now payload; at = at; found = r }
+
+abbrev pub lookupCall : (c : Lookup) → LookupCall
+lookupCall c = callLookup (c .lifetimes) (c .lent) (c .answer)
+
+pub data ReadEntry : Type 0 where
+  read : ReadEntry
+  magicyuv-read : ReadEntry
+
+pub record Read : Type 1 where
+  pub lifetimes : Lfts 4
+  pub lent : ArgsD reading.signature lifetimes
+  pub answer : ResD reading.signature lifetimes
+  pub left : AtExit reading.ended lifetimes
+  pub allowed : reading-reads.Post lifetimes lent answer left
+
+pub record HostRead : Type 1 where
+  pub lifetimes : Lfts 4
+  pub lent : ArgsD host-read.signature lifetimes
+  pub answer : ResD host-read.signature lifetimes
+  pub left : AtExit host-read.ended lifetimes
+  pub allowed : host-read-reads.Post lifetimes lent answer left
+
+abbrev pub ReadAllowed : (f : ReadEntry) → Type 1
+ReadAllowed read = Read
+ReadAllowed magicyuv-read = HostRead
+
+module _ (κs : Lfts 4) where
+  abbrev pub callRead : (a : ArgsD reading.signature κs) (r : ResD reading.signature κs) (s : AtExit reading.ended κs) → ReadCall
+  callRead (lengths, (payload, (workspace, (samples, end)))) r (lengths′, (payload′, (workspace′, (samples′, end′)))) =
+      record { lengths = now lengths; payload = now payload; workspace₀ = now workspace; samples₀ = now samples; reply = replyTo r; workspace₁ = now workspace′; samples₁ = now samples′ }
+
+  abbrev pub callHostRead : (a : ArgsD host-read.signature κs) (r : ResD host-read.signature κs) (s : AtExit host-read.ended κs) → ReadCall
+  callHostRead (lengths, (payload, (workspace, (samples, end)))) r (lengths′, (payload′, (workspace′, (samples′, end′)))) =
+      record { lengths = now lengths; payload = now payload; workspace₀ = now workspace; samples₀ = now samples; reply = r; workspace₁ = now workspace′; samples₁ = now samples′ }
+
+abbrev pub readCall : (f : ReadEntry) (c : ReadAllowed f) → ReadCall
+readCall read c = callRead (c .lifetimes) (c .lent) (c .answer) (c .left)
+readCall magicyuv-read c = callHostRead (c .lifetimes) (c .lent) (c .answer) (c .left)
+
+-- ---- the demands, of every call that a contract allows
+
+pub record Demands : Type 1 where
+  pub demand-1 : (f : FrameEntry) (c : FrameAllowed f) → Demand1 (frameCall f c)
+  pub forgotten : (f h : FrameEntry) (c : FrameAllowed f) (d : FrameAllowed h) → LentAlike (frameCall f c) (frameCall h d) → Forgotten (frameCall f c) (frameCall h d)
+  pub demand-2 : (f : FrameEntry) (c : FrameAllowed f) → Demand2 (frameCall f c)
+  pub demand-3-table : (f : TableEntry) (c : TableAllowed f) → Demand3Table (tableCall f c)
+  pub demand-3-lookup : (f : TableEntry) (c : TableAllowed f) (l : Lookup) → tableCall f c .reply .number ≡ 0
+      → lookupCall l .words ≡ tableCall f c .workspace₁ → lookupCall l .longest ≡ longest (tableCall f c .lengths) → Usable (tableCall f c) (lookupCall l)
+  pub demand-3-reading : (f : ReadEntry) (c : ReadAllowed f) → Demand3Reading (readCall f c)

@@ -1,5 +1,4 @@
 pub mod InOrder
 pub mod Rows
 pub mod Outcomes
-pub mod Memory
 pub mod Places

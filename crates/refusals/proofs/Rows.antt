@@ -63,7 +63,7 @@ module _ (Q : ℕ → Place → Type 0) where
   every-next Done b ha hb = hb refl
   every-next (Refused n p) b ha hb = ha
 
-  every-one : (t : Bool) (n : ℕ) (p : Place) (b : Answer) → Q n p → Every Q b → Every Q (refuseIf t n p andThen b)
+  pub every-one : (t : Bool) (n : ℕ) (p : Place) (b : Answer) → Q n p → Every Q b → Every Q (refuseIf t n p andThen b)
   every-one t n p b h hb = every-then (refuseIf t n p) b (every-if t n p h) hb
 
   every-order : (f : ℕ → Answer) (n : ℕ) → ((i : ℕ) → i < n → Every Q (f i)) → Every Q (inOrder n f)

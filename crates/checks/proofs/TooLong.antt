@@ -1,17 +1,15 @@
 -- Document 01, refusals 9 and 10, proved of the answer of a whole decode: `length-above-18` and `shares-above-one` (their
 -- statements stand in specs/TooLong.antt). Assumes nothing.
 use mathlib.Core.Path.{_≡_, refl}
-use mathlib.Core.Bool.{Bool, true, false}
+use mathlib.Core.Bool.{true, false}
 use mathlib.Core.List.{List}
 use Prim.Native.Nat.{ℕ, zero, suc, _≤_, _<_}
 use native.Mathlib.Omega.{arith}
 use borrow.Author.Tests.{lt-ltb, le-ltb}
-use Rattle.scope.specs.Refusals as refusals
 use Rattle.scope.specs.Pieces as pcs
 use Rattle.scope.specs.Geometry.{planeCount, lengthsOf}
 use Rattle.scope.specs.Words as words
 use Rattle.scope.specs.Words.{longest, lengthOf, shares, tooLong, overfull}
-use Rattle.scope.specs.Frame as frm
 use Rattle.scope.specs.Frame.{answerOf}
 use Rattle.scope.specs.declared.Geometry.{Geometry}
 use Rattle.scope.specs.declared.Place.the-variants.{Plane}

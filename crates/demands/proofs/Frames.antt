@@ -5,21 +5,20 @@ use mathlib.Core.Bool.{Bool, true, not}
 use mathlib.Core.List.{List, _∷_}
 use native.Mathlib.Omega.{arith}
 use lib.ListN.{length, replicate}
-use Rattle.scope.specs.Base.{Samples, Words, zeros}
+use Rattle.scope.specs.Base.{zeros}
 use Rattle.scope.specs.Refusals.{numberOf, Row, row, firstOf, refuseIf, _andThen_, leftByFrame}
 use Rattle.scope.specs.Frame.{table, answerOf, pictureOf, planesAfter, workspaceAfter, Decoded}
 use Rattle.scope.specs.declared.Entry.{Entry}
 use Rattle.scope.specs.declared.Geometry.{Geometry}
-use Rattle.scope.specs.declared.Place.{Place}
 use Rattle.scope.specs.declared.Place.the-variants.{Nothing}
 use Rattle.scope.specs.declared.Answer.{Answer}
-use Rattle.scope.specs.declared.Answer.the-variants.{Done, Refused}
+use Rattle.scope.specs.declared.Answer.the-variants.{Done}
 use Rattle.scope.proofs.Table.{first-cons}
 use Rattle.refusals.specs.Rows.{Every}
 use Rattle.refusals.proofs.Rows.{every-answer, every-one}
 use Rattle.magicyuv.specs.declared.Reply.{Reply}
-use Rattle.magicyuv.specs.Boundary.{Numbers, numbersFit, geometryOf, hostAnswer, Says, Hosted}
-use Rattle.demands.specs.Demand.{FrameCall, tableFor, pictureFor, replyTo, Demand1, LentAlike, SameEnd, Forgotten, Demand2, hosted, FrameEntry, decode8, decode16, magicyuv-decode8, magicyuv-decode16, FrameAllowed, frameCall}
+use Rattle.magicyuv.specs.Boundary.{Numbers, numbersFit, geometryOf, hostAnswer, Hosted}
+use Rattle.demands.specs.Demand.{FrameCall, tableFor, pictureFor, replyTo, Demand1, LentAlike, Forgotten, Demand2, hosted, FrameEntry, decode8, decode16, magicyuv-decode8, magicyuv-decode16, FrameAllowed, frameCall}
 use Rattle.demands.proofs.Replies.{Numbered, says-reply, reply-done, by-table, left-done, left-found, left-cleared}
 
 -- what a contract says of a call, in the call's own names
@@ -115,23 +114,26 @@ module _ (c : FrameCall) (st : Stated c) where
   success-is z = reply-done (tableFor c) (c .reply) (st .reply) numbers z
 
   success : c .reply .number ≡ 0 → (c .planes₁ ≡ pictureFor c) × (c .workspace₁ ≡ zeros (c .workspace₀))
-  success z =
-      (st .planes ∙ left-done 4 (c .planes₀) (zeros (c .planes₀)) (pictureFor c) said (success-is z),
-      st .workspace ∙ left-done 4 (c .workspace₀) (zeros (c .workspace₀)) (zeros (c .workspace₀)) said (success-is z))
+  success z = (
+    st .planes ∙ left-done 4 (c .planes₀) (zeros (c .planes₀)) (pictureFor c) said (success-is z),
+    st .workspace ∙ left-done 4 (c .workspace₀) (zeros (c .workspace₀)) (zeros (c .workspace₀)) said (success-is z),
+  )
 
   kept : 1 ≤ c .reply .number → c .reply .number ≤ 4 → (c .planes₁ ≡ c .planes₀) × (c .workspace₁ ≡ c .workspace₀)
   kept l h =
       let a : 1 ≤ numberOf said = omega (arith, l, number-is) in
-      let b : numberOf said ≤ 4 = omega (arith, h, number-is) in
-      (st .planes ∙ left-found 4 (c .planes₀) (zeros (c .planes₀)) (pictureFor c) said a b,
-      st .workspace ∙ left-found 4 (c .workspace₀) (zeros (c .workspace₀)) (zeros (c .workspace₀)) said a b)
+      let b : numberOf said ≤ 4 = omega (arith, h, number-is) in (
+        st .planes ∙ left-found 4 (c .planes₀) (zeros (c .planes₀)) (pictureFor c) said a b,
+        st .workspace ∙ left-found 4 (c .workspace₀) (zeros (c .workspace₀)) (zeros (c .workspace₀)) said a b,
+      )
 
   wiped : 4 < c .reply .number → (c .planes₁ ≡ zeros (c .planes₀)) × (c .workspace₁ ≡ zeros (c .workspace₀))
   wiped h =
       let a : 1 ≤ numberOf said = omega (arith, h, number-is) in
-      let b : 4 < numberOf said = omega (arith, h, number-is) in
-      (st .planes ∙ left-cleared 4 (c .planes₀) (zeros (c .planes₀)) (pictureFor c) said a b,
-      st .workspace ∙ left-cleared 4 (c .workspace₀) (zeros (c .workspace₀)) (zeros (c .workspace₀)) said a b)
+      let b : 4 < numberOf said = omega (arith, h, number-is) in (
+        st .planes ∙ left-cleared 4 (c .planes₀) (zeros (c .planes₀)) (pictureFor c) said a b,
+        st .workspace ∙ left-cleared 4 (c .workspace₀) (zeros (c .workspace₀)) (zeros (c .workspace₀)) said a b,
+      )
 
   pub demand-1-of : Demand1 c
   demand-1-of = record { exactly = by-table (tableFor c) (c .reply) (st .reply) numbers; success = success; found = kept; cleared = wiped }

@@ -1,8 +1,6 @@
 -- Demand 3 (specs/Demand.antt) of a reading by itself. Document 01, "Words and lookup". Assumes nothing.
 use mathlib.Core.Path.{_≡_, refl, sym, ap, _∙_}
-use mathlib.Core.Logic.{_↔_}
 use Prim.Native.Nat.{ℕ, _≤_, _<_}
-use mathlib.Core.Bool.{Bool, true, false}
 use mathlib.Core.List.{List}
 use native.Mathlib.Omega.{arith}
 use borrow.Author.Tests.{le-ltb}
@@ -13,10 +11,9 @@ use Rattle.scope.specs.Refusals.{numberOf, firstOf, refuseIf, _andThen_}
 use Rattle.scope.specs.Words.{longest, shares, need, Chain, symbols, stuckAt, chain, symbolsOf}
 use Rattle.scope.specs.Pieces.{readable}
 use Rattle.scope.specs.Alone.{buildAnswer, readRowsAlone, readAnswer, samplesRead, workspaceRead}
-use Rattle.scope.specs.declared.Place.{Place}
-use Rattle.scope.specs.declared.Place.the-variants.{Plane, Nothing}
+use Rattle.scope.specs.declared.Place.the-variants.{Nothing}
 use Rattle.scope.specs.declared.Answer.{Answer}
-use Rattle.scope.specs.declared.Answer.the-variants.{Done, Refused}
+use Rattle.scope.specs.declared.Answer.the-variants.{Done}
 use Rattle.scope.proofs.Table.{read-in-pieces}
 use Rattle.refusals.specs.Rows.{Every}
 use Rattle.refusals.proofs.InOrder.{first-passed, then-passed}
@@ -25,7 +22,7 @@ use Rattle.codes.proofs.Longest.{longest-most}
 use Rattle.codes.proofs.Chains.{chain-exactly, one-chain}
 use Rattle.alone.proofs.Building.{Good, good, answer-done}
 use Rattle.magicyuv.specs.declared.Reply.{Reply}
-use Rattle.demands.specs.Demand.{replyTo, ReadCall, InCaps, ChainOf, Demand3Reading, ReadEntry, read, magicyuv-read, ReadAllowed, readCall}
+use Rattle.demands.specs.Demand.{replyTo, ReadCall, ChainOf, Demand3Reading, ReadEntry, read, magicyuv-read, ReadAllowed, readCall}
 use Rattle.demands.proofs.Replies.{Numbered, says-reply, reply-done, by-table, left-done, left-found, left-cleared}
 use Rattle.demands.proofs.Tables.{build-numbers}
 
@@ -111,17 +108,19 @@ module _ (c : ReadCall) (st : ReadStated c) where
   unfolding samplesRead workspaceRead
   kept l h =
       let a : 1 ≤ numberOf said = omega (arith, l, number-is) in
-      let b : numberOf said ≤ 11 = omega (arith, h, number-is) in
-      (st .samples ∙ left-found 11 (c .samples₀) (zeros (c .samples₀)) (symbolsOf (chain (c .lengths) (c .payload) 0 n)) said a b,
-      st .workspace ∙ left-found 11 (c .workspace₀) (zeros (c .workspace₀)) (zeros (c .workspace₀)) said a b)
+      let b : numberOf said ≤ 11 = omega (arith, h, number-is) in (
+        st .samples ∙ left-found 11 (c .samples₀) (zeros (c .samples₀)) (symbolsOf (chain (c .lengths) (c .payload) 0 n)) said a b,
+        st .workspace ∙ left-found 11 (c .workspace₀) (zeros (c .workspace₀)) (zeros (c .workspace₀)) said a b,
+      )
 
   wiped : 11 < c .reply .number → (c .samples₁ ≡ zeros (c .samples₀)) × (c .workspace₁ ≡ zeros (c .workspace₀))
   unfolding samplesRead workspaceRead
   wiped h =
       let a : 1 ≤ numberOf said = omega (arith, h, number-is) in
-      let b : 11 < numberOf said = omega (arith, h, number-is) in
-      (st .samples ∙ left-cleared 11 (c .samples₀) (zeros (c .samples₀)) (symbolsOf (chain (c .lengths) (c .payload) 0 n)) said a b,
-      st .workspace ∙ left-cleared 11 (c .workspace₀) (zeros (c .workspace₀)) (zeros (c .workspace₀)) said a b)
+      let b : 11 < numberOf said = omega (arith, h, number-is) in (
+        st .samples ∙ left-cleared 11 (c .samples₀) (zeros (c .samples₀)) (symbolsOf (chain (c .lengths) (c .payload) 0 n)) said a b,
+        st .workspace ∙ left-cleared 11 (c .workspace₀) (zeros (c .workspace₀)) (zeros (c .workspace₀)) said a b,
+      )
 
   clears : c .reply .number ≡ 0 → c .workspace₁ ≡ zeros (c .workspace₀)
   unfolding workspaceRead

@@ -71,7 +71,7 @@ module _ (rows : List Row) (r : Reply) (e : r ≡ replyTo (firstOf rows)) (h : E
     refused = λ n p l. (
       λ s. exactly-when rows n p .0 (named-refused (firstOf rows) n p l (sym number ∙ s .number) (sym kind ∙ s .kind) (sym place ∙ s .place)),
       λ f. let a = exactly-when rows n p .1 f in
-      record { number = number ∙ ap numberOf a; kind = kind ∙ ap (λ (x : Answer). kindNumber (placeOf x)) a; place = place ∙ ap (λ (x : Answer). placeNumber (placeOf x)) a },
+          record { number = number ∙ ap numberOf a; kind = kind ∙ ap (λ (x : Answer). kindNumber (placeOf x)) a; place = place ∙ ap (λ (x : Answer). placeNumber (placeOf x)) a },
     );
     most = rw number (number-most (firstOf rows) h);
   }

@@ -1,21 +1,20 @@
 -- Demand 3 (specs/Demand.antt) of a table by itself, and of the lookup in what it leaves. Document 01, "Words and lookup". Assumes nothing.
 use mathlib.Core.Path.{_≡_, refl, sym, ap, _∙_}
 use mathlib.Core.Logic.{_↔_}
-use Prim.Native.Nat.{ℕ, _≤_, _<_}
+use Prim.Native.Nat.{ℕ, _≤_}
 use mathlib.Core.List.{List, _++_}
 use native.Mathlib.Omega.{arith}
 use lib.ListN.{length, drop}
 use lib.Seq.{drop-at}
 use Rattle.scope.specs.Base.{zeros}
 use Rattle.scope.specs.Refusals.{numberOf, firstOf}
-use Rattle.scope.specs.Words.{longest, shares, need, lengthOf, wordAt, Begins}
+use Rattle.scope.specs.Words.{longest, need, lengthOf, wordAt, Begins}
 use Rattle.scope.specs.Lookup.{tableOf, lookupIn}
-use Rattle.scope.specs.Alone.{buildRows, buildAnswer, workspaceBuilt, BuiltAlone}
-use Rattle.scope.specs.declared.Place.the-variants.{Plane, Nothing}
+use Rattle.scope.specs.Alone.{buildRows, buildAnswer, workspaceBuilt}
 use Rattle.scope.specs.declared.Found.{Found}
 use Rattle.scope.specs.declared.Found.the-variants.{Word, NoWord}
 use Rattle.scope.specs.declared.Answer.{Answer}
-use Rattle.scope.specs.declared.Answer.the-variants.{Done, Refused}
+use Rattle.scope.specs.declared.Answer.the-variants.{Done}
 use Rattle.refusals.specs.Rows.{Every}
 use Rattle.codes.proofs.Longest.{longest-most}
 use Rattle.codes.proofs.Words.{prefix-free, word-found, found-begins}
@@ -24,8 +23,7 @@ use Rattle.codes.proofs.Table.{table-length}
 use Rattle.codes.proofs.Lookup.{looks-behind}
 use Rattle.alone.proofs.Building.{Good, good, answer-done, by-tests}
 use Rattle.magicyuv.specs.declared.Reply.{Reply}
-use Rattle.magicyuv.specs.Boundary.{BuiltFor}
-use Rattle.demands.specs.Demand.{replyTo, TableCall, LookupCall, InCaps, Demand3Table, Usable, TableEntry, build, magicyuv-build, TableAllowed, tableCall, Lookup, lookupCall}
+use Rattle.demands.specs.Demand.{replyTo, TableCall, LookupCall, Demand3Table, Usable, TableEntry, build, magicyuv-build, TableAllowed, tableCall, Lookup, lookupCall}
 use Rattle.demands.proofs.Replies.{Numbered, says-reply, reply-done, by-table, left-done, left-found}
 
 -- what a contract says of a call, in the call's own names
@@ -111,9 +109,9 @@ pub usable-of : (c : TableCall) (st : TableStated c) (l : LookupCall) → l .fou
 usable-of c st l e z w m =
     let g : Good (c .lengths) (length (c .workspace₀)) = is-good c st z in
     let a : l .found ≡ wordAt (c .lengths) (l .payload) (l .at) =
-        e
-        ∙ rw (w, left-table c st z, m) refl
-        ∙ looks-behind (c .lengths) (drop (need (c .lengths)) (c .workspace₀)) (l .payload) (l .at) (g .small) (g .full)
+    e
+    ∙ rw (w, left-table c st z, m) refl
+    ∙ looks-behind (c .lengths) (drop (need (c .lengths)) (c .workspace₀)) (l .payload) (l .at) (g .small) (g .full)
     in
     record {
       word = λ n s. (λ f. word-of (c .lengths) (l .payload) (l .at) n s .0 (sym a ∙ f), λ b. a ∙ word-of (c .lengths) (l .payload) (l .at) n s .1 b);

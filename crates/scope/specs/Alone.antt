@@ -36,7 +36,7 @@ pub record BuiltAlone (ls : Lengths) (workspace₀ : Words) (r : Answer) (worksp
   pub workspace : workspace₁ ≡ workspaceBuilt ls workspace₀
 
 -- "A reading by itself .. builds first, with those refusals, and 4 also for more than 268,435,456 samples .. then it reads, with
--- no slice checks. A failed word gives 14 (plane 0 ..)": of n samples. Both 4's are one row of document 01's table, "Checked in this
+-- no slice checks. A failed word gives 14 (plane 0 ..)": of n samples; "For n = 0 it succeeds once the table is built." Both 4's are one row of document 01's table, "Checked in this
 -- order", so a buffer that is too large is refused before the lengths are looked at, whatever they are.
 abbrev pub readRowsAlone : (ls : Lengths) (payload : Bytes) (n workspaceLen : ℕ) → List Row
 readRowsAlone ls payload n workspaceLen =

@@ -1,5 +1,5 @@
 -- Document 01, "Refusal numbers": its table down the page, and what a decode answers and leaves, as one function of what is
--- lent. frame, lengths: bytes as lists; g: the geometry; s: a slice's number; p: a plane's, in wire order. Assumes nothing.
+-- lent: "The caller lends a frame, a geometry record, code lengths, a plane buffer and a workspace of 32-bit words." frame, lengths: bytes as lists; g: the geometry; s: a slice's number; p: a plane's, in wire order. Assumes nothing.
 use mathlib.Core.Path.{_≡_}
 use Prim.Native.Nat.{ℕ, zero, suc, _+_, _-_, _*_, _^_}
 use mathlib.Core.Bool.{Bool, cond, not, _&&_, _||_}
@@ -178,7 +178,8 @@ unfoldable pub workspaceAfter : (which : Entry) (frame : Bytes) (g : Geometry) (
 workspaceAfter which frame g lengths planesLen workspace =
     leftByFrame (answerOf which frame g lengths planesLen (length workspace)) workspace (zeros workspace) (zeros workspace)
 
--- the statement of a frame entry: its answer, and what it leaves in the planes and in the workspace
+-- the statement of a frame entry: its answer, and what it leaves in the planes and in the workspace. "The frame and lengths are only read.": they
+-- are lent so (`&[u8]`), and there is nothing to say of them.
 pub record Decoded (which : Entry) (frame : Bytes) (g : Geometry) (lengths : Lengths) (planes₀ : Samples) (workspace₀ : Words) (r : Answer) (planes₁ : Samples) (workspace₁ : Words) : Type 0 where
   pub answer : r ≡ answerOf which frame g lengths (length planes₀) (length workspace₀)
   pub planes : planes₁ ≡ planesAfter which frame g lengths planes₀ (length workspace₀)

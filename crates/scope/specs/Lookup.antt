@@ -3,7 +3,7 @@
 -- it does over these words is a theorem (`looks-table`, crates/codes; `usable`, crates/demands), so a reader need not believe this file. Assumes nothing.
 use Prim.Native.Nat.{ℕ, zero, suc, _+_, _-_, _*_, _/_, _%_, _^_}
 use mathlib.Core.Bool.{Bool, cond, _&&_}
-use mathlib.Core.List.{List, [], _∷_, _++_}
+use mathlib.Core.List.{[], _∷_, _++_}
 use lib.ListN.{length, getD}
 use lib.Dec.{eqb, ltb, leb}
 use Rattle.scope.specs.Base.{Bytes, Lengths, Words, listBelow}

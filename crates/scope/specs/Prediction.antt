@@ -17,7 +17,8 @@ gradient depth left top topleft = (left + top + (2 ^ depth - topleft)) % 2 ^ dep
 unfoldable pub clampMedian : (depth left top topleft : ℕ) → ℕ
 clampMedian depth left top topleft = max (min left top) (min (gradient depth left top topleft) (max left top))
 
--- depths 10 to 14: the prediction of ITU-T T.87. If Rc ≥ max(Ra, Rb), Px = min(Ra, Rb); else if Rc ≤ min(Ra, Rb),
+-- "Median at 10 to 14: T.87, with lo and hi of left and top: top-left at least hi gives lo, else at most lo gives hi, else the exact left + top −
+-- top-left.": in ITU-T T.87's own letters, If Rc ≥ max(Ra, Rb), Px = min(Ra, Rb); else if Rc ≤ min(Ra, Rb),
 -- Px = max(Ra, Rb); else Px = Ra + Rb − Rc. Ra is the sample to the left, Rb the one above, Rc the one above to the left.
 unfoldable pub t87Median : (Ra Rb Rc : ℕ) → ℕ
 t87Median Ra Rb Rc =
@@ -28,7 +29,7 @@ t87Median Ra Rb Rc =
 unfoldable pub median : (depth left top topleft : ℕ) → ℕ
 median depth left top topleft = cond (eqb depth 8) (clampMedian depth left top topleft) (t87Median left top topleft)
 
--- "Predictors: 1 Left, 2 Gradient, 3 Median"
+-- "Predictors: 1 Left, 2 Gradient, 3 Median"; "Left: left."
 unfoldable pub predictor : (depth kind left top topleft : ℕ) → ℕ
 predictor depth kind left top topleft =
     cond (eqb kind 1) left

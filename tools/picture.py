@@ -18,8 +18,8 @@ BEGIN, END = "<!-- the crates: python3 tools/picture.py --write -->", "<!-- end 
 WIDTH = 150
 
 WORDS = {
-    "scope": "the types, document 01 as definitions, the known answers",
-    "refusals": "laws of the table of refusals, demand 1",
+    "scope": "the types, document 01 as definitions, the table of refusals, the known answers",
+    "refusals": "laws of the table of refusals",
     "lists": "parts of lists, powers of two",
     "memory": "a workspace cleared, sums modulo 2^depth, the law of a loop in place",
     "views": "rows of a pitch: samples and gaps",
@@ -54,8 +54,8 @@ WORDS = {
     "picture": "laws of the entries: planes filled slice by slice; where the lengths come in",
     "decode8": "document 01's entry: checks, every slice into its place, memory left",
     "decode16": "document 01's entry: checks, every slice into its place, memory left",
-    "demands": "demands 1 and 2 of the entries",
-    "alone": "a table and a reading by themselves, demand 3",
+    "demands": "the three demands, of every function that a host can call",
+    "alone": "a table and a reading by themselves",
     "magicyuv": "the host's boundary: numbers and slices in, three numbers out",
     "demo": "program: frames and known answers built in",
     "cases": "the stored list's form, the memory lent, the verdict",

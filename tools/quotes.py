@@ -4,7 +4,8 @@
 A quotation is what stands between double quotes in a comment of crates/*/specs, crates/*/src or crates/*/proofs; it may run over several
 lines of one comment. It must stand in one section of the document word for word. White space, line ends, backquotes, asterisks and the bars of
 tables do not count; its first letter may be small where the document has a capital; `..` stands for words left out. Words of a heading may be
-quoted too. Behind the name of a page of this repository (host/README.md, "..") stands a heading of that page.
+quoted too. Behind the name of a page of this repository (host/README.md, "..") stands a heading of that page. What stands between “ and ” is
+the customer's too: it must stand in README.md, "The three demands".
 
 Usage, at the repository's root: python3 tools/quotes.py DOCUMENT
 Prints each quotation that is not there, with file and line; status 1 if there is any. Then, without a change of status, the sentences and rows of
@@ -16,6 +17,7 @@ from pathlib import Path
 
 ROOT = Path(__file__).resolve().parent.parent
 COMMENT = re.compile(r"(?:^|\s)(?:--|//) ?(.*)")
+DEMANDS = "The three demands"
 RULES = ("What comes in", "Layout", "Refusal numbers", "Words and lookup", "Prediction", "Known answers", "Slips")
 
 
@@ -71,9 +73,10 @@ def quotations(path):
         text = "\n".join(words for _, words in block)
         if text.count('"') % 2:
             yield block[0][0], "not closed: " + text[text.rindex('"') + 1 :], ""
-        for m in re.finditer(r'"([^"]*)"', text):
-            if m[1].strip():
-                yield block[0][0] + text[: m.start()].count("\n"), m[1], plain(text[: m.start()])
+        for m in re.finditer(r'"([^"]*)"|“([^”]*)”', text):
+            words = m[1] or m[2]
+            if words.strip():
+                yield block[0][0] + text[: m.start()].count("\n"), words, DEMANDS if m[2] else plain(text[: m.start()])
 
 
 def main():
@@ -82,13 +85,16 @@ def main():
     document = Path(sys.argv[1]).read_text()
     titles = headings(document)
     sections = [Section(*(part.split("\n", 1) + [""])[:2]) for part in re.split(r"(?m)^#+ ", document)[1:]]
+    demands = Section(DEMANDS, (ROOT / "README.md").read_text().split(f"## {DEMANDS}\n")[1].split("\n## ")[0])
     wrong, number, covered = [], 0, {s.heading: [] for s in sections}
     files = [p for pattern in ("specs/**/*.antt", "src/**/*.rt", "proofs/**/*.antt") for p in sorted(ROOT.glob(f"crates/*/{pattern}"))]
     for path in files:
         for line, words, before in quotations(path):
             number += 1
             page = re.search(r"([\w/-]+\.md),$", before)
-            if page or any(words_of(plain(words)).search(t) for t in titles):
+            if before == DEMANDS:
+                there = bool(demands.spans(words))
+            elif page or any(words_of(plain(words)).search(t) for t in titles):
                 there = not page or plain(words) in headings((ROOT / page[1]).read_text())
             else:
                 spans = [(s.heading, s.spans(words)) for s in sections]

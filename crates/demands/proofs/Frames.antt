@@ -78,6 +78,12 @@ stated decode16 c = decoded-stated _ _ _ _ _ _ _ _ _ (c .allowed)
 stated magicyuv-decode8 c = hosted-stated _ _ _ _ _ _ _ _ _ (c .allowed)
 stated magicyuv-decode16 c = hosted-stated _ _ _ _ _ _ _ _ _ (c .allowed)
 
+-- the answer itself
+pub answer-of : (which : Entry) (frame : List ℕ) (g : Geometry) (lengths planes₀ workspace₀ : List ℕ) (r : Answer) (planes₁ workspace₁ : List ℕ)
+    → Decoded which frame g lengths planes₀ workspace₀ r planes₁ workspace₁
+    → r ≡ firstOf (row 1 Nothing (not true) ∷ table which frame g lengths (length planes₀) (length workspace₀))
+answer-of which frame g lengths planes₀ workspace₀ r planes₁ workspace₁ d = d .answer ∙ sym (whole which frame g lengths planes₀ workspace₀ true)
+
 -- ---- demands 1 and 2, of whatever is so stated
 
 module _ (c : FrameCall) (st : Stated c) where

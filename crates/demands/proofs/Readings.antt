@@ -5,7 +5,7 @@ use mathlib.Core.List.{List}
 use native.Mathlib.Omega.{arith}
 use borrow.Author.Tests.{le-ltb}
 use lib.Dec.{ltb}
-use lib.ListN.{length}
+use lib.ListN.{length, replicate}
 use Rattle.scope.specs.Base.{zeros}
 use Rattle.scope.specs.Refusals.{numberOf, firstOf, refuseIf, _andThen_}
 use Rattle.scope.specs.Words.{longest, shares, need, Chain, symbols, stuckAt, chain, symbolsOf}
@@ -22,7 +22,7 @@ use Rattle.codes.proofs.Longest.{longest-most}
 use Rattle.codes.proofs.Chains.{chain-exactly, one-chain}
 use Rattle.alone.proofs.Building.{Good, good, answer-done}
 use Rattle.magicyuv.specs.declared.Reply.{Reply}
-use Rattle.demands.specs.Demand.{replyTo, ReadCall, ChainOf, Demand3Reading, ReadEntry, read, magicyuv-read, ReadAllowed, readCall}
+use Rattle.demands.specs.Demand.{replyTo, ReadCall, ChainOf, Demand3Reading, ReadingsAlike, ReadingForgotten, ReadEntry, read, magicyuv-read, ReadAllowed, readCall}
 use Rattle.demands.proofs.Replies.{Numbered, says-reply, reply-done, by-table, left-done, left-found, left-cleared}
 use Rattle.demands.proofs.Tables.{build-numbers}
 
@@ -139,4 +139,35 @@ module _ (c : ReadCall) (st : ReadStated c) where
     found = kept;
     cleared = wiped;
     clears = clears;
+  }
+
+-- ---- two readings
+
+module _ (c d : ReadCall) (sc : ReadStated c) (sd : ReadStated d) (h : ReadingsAlike c d) where
+  same-reply : c .reply ≡ d .reply
+  same-reply = sc .reply ∙ rw (h .lengths, h .payload, h .workspace, h .samples) refl ∙ sym (sd .reply)
+
+  same-zeros : (xs ys : List ℕ) → length xs ≡ length ys → zeros xs ≡ zeros ys
+  same-zeros xs ys e = ap (λ (k : ℕ). replicate k 0) e
+
+  same-number : c .reply .number ≡ d .reply .number
+  same-number = ap (λ (x : Reply). x .number) same-reply
+
+  pub reading-forgotten-of : ReadingForgotten c d
+  reading-forgotten-of = record {
+    reply = same-reply;
+    success = λ z.
+        let y : d .reply .number ≡ 0 = sym same-number ∙ z in
+        let a = hands c sc z in
+        let b = hands d sd y in
+        (one-chain (c .lengths) (c .payload) 0 (c .samples₁) (d .samples₁) (a .long ∙ h .samples ∙ sym (b .long)) (a .spelt) (rw (h .lengths, h .payload) (b .spelt)),
+        clears c sc z ∙ same-zeros (c .workspace₀) (d .workspace₀) (h .workspace) ∙ sym (clears d sd y));
+    cleared = λ l.
+        let a = wiped c sc l in
+        let b = wiped d sd (rw same-number at l) in
+        (a .0 ∙ same-zeros (c .samples₀) (d .samples₀) (h .samples) ∙ sym (b .0), a .1 ∙ same-zeros (c .workspace₀) (d .workspace₀) (h .workspace) ∙ sym (b .1));
+    only = λ es ew. (
+      sc .samples ∙ rw (h .lengths, h .payload, es, h .workspace) refl ∙ sym (sd .samples),
+      sc .workspace ∙ rw (h .lengths, h .payload, h .samples, ew) refl ∙ sym (sd .workspace),
+    );
   }

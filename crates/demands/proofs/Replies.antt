@@ -11,6 +11,7 @@ use Rattle.scope.specs.declared.Answer.{Answer}
 use Rattle.scope.specs.declared.Answer.the-variants.{Done, Refused}
 use Rattle.scope.proofs.Table.{planes-when, exactly-when}
 use Rattle.refusals.specs.Rows.{Every}
+use Rattle.refusals.proofs.Rows.{every-refused}
 use Rattle.magicyuv.specs.declared.Reply.{Reply}
 use Rattle.magicyuv.specs.Boundary.{Says}
 use Rattle.magicyuv.proofs.Once.{says-once}
@@ -73,6 +74,7 @@ module _ (rows : List Row) (r : Reply) (e : r ≡ replyTo (firstOf rows)) (h : E
       λ f. let a = exactly-when rows n p .1 f in
           record { number = number ∙ ap numberOf a; kind = kind ∙ ap (λ (x : Answer). kindNumber (placeOf x)) a; place = place ∙ ap (λ (x : Answer). placeNumber (placeOf x)) a },
     );
+    numbers = λ n p f. every-refused Numbered (firstOf rows) n p h (exactly-when rows n p .1 f);
     most = rw number (number-most (firstOf rows) h);
   }
 

@@ -4,8 +4,8 @@ use mathlib.Core.Logic.{_↔_}
 use Prim.Native.Nat.{ℕ, _≤_}
 use mathlib.Core.List.{List, _++_}
 use native.Mathlib.Omega.{arith}
-use lib.ListN.{length, drop}
-use lib.Seq.{drop-at}
+use lib.ListN.{length, take, drop}
+use lib.Seq.{take-at, drop-at}
 use Rattle.scope.specs.Base.{zeros}
 use Rattle.scope.specs.Refusals.{numberOf, firstOf}
 use Rattle.scope.specs.Words.{longest, need, lengthOf, wordAt, Begins}
@@ -23,7 +23,7 @@ use Rattle.codes.proofs.Table.{table-length}
 use Rattle.codes.proofs.Lookup.{looks-behind}
 use Rattle.alone.proofs.Building.{Good, good, answer-done, by-tests}
 use Rattle.magicyuv.specs.declared.Reply.{Reply}
-use Rattle.demands.specs.Demand.{replyTo, TableCall, LookupCall, Demand3Table, Usable, TableEntry, build, magicyuv-build, TableAllowed, tableCall, Lookup, lookupCall}
+use Rattle.demands.specs.Demand.{replyTo, TableCall, LookupCall, Demand3Table, TablesAlike, TableForgotten, Usable, TableEntry, build, magicyuv-build, TableAllowed, tableCall, Lookup, lookupCall}
 use Rattle.demands.proofs.Replies.{Numbered, says-reply, reply-done, by-table, left-done, left-found}
 
 -- what a contract says of a call, in the call's own names
@@ -90,6 +90,21 @@ module _ (c : TableCall) (st : TableStated c) where
     found = found;
     past = past;
   }
+
+-- ---- two tables
+
+pub table-forgotten-of : (c d : TableCall) → TableStated c → TableStated d → TablesAlike c d → TableForgotten c d
+table-forgotten-of c d sc sd h =
+    let reply : c .reply ≡ d .reply = sc .reply ∙ rw (h .lengths, h .workspace) refl ∙ sym (sd .reply) in
+    record {
+      reply = reply;
+      words = λ z.
+          ap (λ (w : List ℕ). take (need (c .lengths)) w) (left-table c sc z)
+          ∙ take-at (tableOf (c .lengths)) (drop (need (c .lengths)) (c .workspace₀)) (need (c .lengths)) (table-length (c .lengths))
+          ∙ sym (ap (λ (w : List ℕ). take (need (c .lengths)) w) (left-table d sd (sym (ap (λ (x : Reply). x .number) reply) ∙ z))
+          ∙ rw (← h .lengths) (take-at (tableOf (c .lengths)) (drop (need (c .lengths)) (d .workspace₀)) (need (c .lengths)) (table-length (c .lengths))));
+      only = λ e. sc .workspace ∙ rw (h .lengths, e) refl ∙ sym (sd .workspace);
+    }
 
 -- ---- the lookup
 

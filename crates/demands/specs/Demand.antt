@@ -8,7 +8,7 @@ use mathlib.Core.Logic.{_↔_}
 use Prim.Native.Nat.{ℕ, _-_, _/_, _^_, _≤_, _<_}
 use mathlib.Core.Bool.{Bool, true, not}
 use mathlib.Core.List.{List, _∷_}
-use lib.ListN.{length, drop}
+use lib.ListN.{length, take, drop}
 use contract.Lifetimes.{Lfts}
 use borrow.Fn.World.{ArgsD, ResD}
 use denote.Triple.Clauses.{AtExit}
@@ -97,10 +97,11 @@ pub record ReadCall : Type 0 where
 -- ---- exactly when
 
 -- A reply goes by a table of rows: 0 exactly when no row applies; a refusal's number and place exactly when a row with that number and place applies and
--- no row before it does; and no number is above 15, so that 0 means success and nothing else does.
+-- no row before it does. A refusal's number is at least 1 and at most 15, so that 0 means success and nothing else does.
 pub record ByTable (rows : List Row) (reply : Reply) : Type 0 where
   pub success : (reply .number ≡ 0) ↔ NoneApplies rows
   pub refused : (n : ℕ) (p : Place) → 1 ≤ n → Says (Refused n p) reply ↔ FirstApplies rows n p
+  pub numbers : (n : ℕ) (p : Place) → FirstApplies rows n p → (1 ≤ n) × (n ≤ 15)
   pub most : reply .number ≤ 15
 
 -- ---- demand 1
@@ -189,6 +190,16 @@ pub record Usable (c : TableCall) (l : LookupCall) : Type 0 where
   pub word : (n s : ℕ) → (l .found ≡ Word n s) ↔ (Begins (c .lengths) (l .payload) (l .at) s × (n ≡ lengthOf (c .lengths) s))
   pub none : (l .found ≡ NoWord) ↔ ((s : ℕ) → Begins (c .lengths) (l .payload) (l .at) s → ⊥)
 
+-- two tables of the same lengths, built in memory of the same size, whatever it held: the same reply, and where they are built the same words within the need
+pub record TablesAlike (c d : TableCall) : Type 0 where
+  pub lengths : c .lengths ≡ d .lengths
+  pub workspace : length (c .workspace₀) ≡ length (d .workspace₀)
+
+pub record TableForgotten (c d : TableCall) : Type 0 where
+  pub reply : c .reply ≡ d .reply
+  pub words : c .reply .number ≡ 0 → take (need (c .lengths)) (c .workspace₁) ≡ take (need (c .lengths)) (d .workspace₁)
+  pub only : c .workspace₀ ≡ d .workspace₀ → c .workspace₁ ≡ d .workspace₁
+
 -- the payload's bits, continued with zeros, begin with a chain of n words: their symbols are ss
 pub record ChainOf (ls : Lengths) (payload : Bytes) (n : ℕ) (ss : Samples) : Type 0 where
   pub long : length ss ≡ n
@@ -210,6 +221,19 @@ pub record Demand3Reading (c : ReadCall) : Type 0 where
   pub found : 1 ≤ c .reply .number → c .reply .number ≤ 11 → (c .samples₁ ≡ c .samples₀) × (c .workspace₁ ≡ c .workspace₀)
   pub cleared : 11 < c .reply .number → (c .samples₁ ≡ zeros (c .samples₀)) × (c .workspace₁ ≡ zeros (c .workspace₀))
   pub clears : c .reply .number ≡ 0 → c .workspace₁ ≡ zeros (c .workspace₀)
+
+-- two readings of the same lengths and payload, into memory of the same size, whatever it held
+pub record ReadingsAlike (c d : ReadCall) : Type 0 where
+  pub lengths : c .lengths ≡ d .lengths
+  pub payload : c .payload ≡ d .payload
+  pub workspace : length (c .workspace₀) ≡ length (d .workspace₀)
+  pub samples : length (c .samples₀) ≡ length (d .samples₀)
+
+pub record ReadingForgotten (c d : ReadCall) : Type 0 where
+  pub reply : c .reply ≡ d .reply
+  pub success : c .reply .number ≡ 0 → (c .samples₁ ≡ d .samples₁) × (c .workspace₁ ≡ d .workspace₁)
+  pub cleared : 11 < c .reply .number → (c .samples₁ ≡ d .samples₁) × (c .workspace₁ ≡ d .workspace₁)
+  pub only : c .samples₀ ≡ d .samples₀ → c .workspace₀ ≡ d .workspace₀ → (c .samples₁ ≡ d .samples₁) × (c .workspace₁ ≡ d .workspace₁)
 
 -- ---- the calls that the contracts allow: `Post` is the plain reading that Rattle itself makes of the `ensures` clauses of src/, so nothing here goes
 -- by another copy of a contract
@@ -407,7 +431,15 @@ pub record Demands : Type 1 where
   pub demand-1 : (f : FrameEntry) (c : FrameAllowed f) → Demand1 (frameCall f c)
   pub forgotten : (f h : FrameEntry) (c : FrameAllowed f) (d : FrameAllowed h) → LentAlike (frameCall f c) (frameCall h d) → Forgotten (frameCall f c) (frameCall h d)
   pub demand-2 : (f : FrameEntry) (c : FrameAllowed f) → Demand2 (frameCall f c)
+  -- of a function whose answer is not three numbers, the answer itself
+  pub answer-8 : (c : Decode8) → c .answer ≡ firstOf (tableFor (frameCall decode8 c))
+  pub answer-16 : (c : Decode16) → c .answer ≡ firstOf (tableFor (frameCall decode16 c))
   pub demand-3-table : (f : TableEntry) (c : TableAllowed f) → Demand3Table (tableCall f c)
+  pub table-forgotten : (f h : TableEntry) (c : TableAllowed f) (d : TableAllowed h) → TablesAlike (tableCall f c) (tableCall h d) → TableForgotten (tableCall f c) (tableCall h d)
+  pub answer-table : (c : Build) → c .answer ≡ firstOf (buildRows (tableCall build c .lengths) (length (tableCall build c .workspace₀)))
   pub demand-3-lookup : (f : TableEntry) (c : TableAllowed f) (l : Lookup) → tableCall f c .reply .number ≡ 0
       → lookupCall l .words ≡ tableCall f c .workspace₁ → lookupCall l .longest ≡ longest (tableCall f c .lengths) → Usable (tableCall f c) (lookupCall l)
   pub demand-3-reading : (f : ReadEntry) (c : ReadAllowed f) → Demand3Reading (readCall f c)
+  pub reading-forgotten : (f h : ReadEntry) (c : ReadAllowed f) (d : ReadAllowed h) → ReadingsAlike (readCall f c) (readCall h d) → ReadingForgotten (readCall f c) (readCall h d)
+  pub answer-reading : (c : Read) → c .answer
+      ≡ firstOf (readRowsAlone (readCall read c .lengths) (readCall read c .payload) (length (readCall read c .samples₀)) (length (readCall read c .workspace₀)))

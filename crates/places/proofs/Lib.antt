@@ -1,3 +1,5 @@
 pub mod Passed
 pub mod Samples
 pub mod Planes
+pub mod Colours
+pub mod Picture

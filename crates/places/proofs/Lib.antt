@@ -2,4 +2,5 @@ pub mod Passed
 pub mod Samples
 pub mod Planes
 pub mod Colours
+pub mod Covering
 pub mod Picture

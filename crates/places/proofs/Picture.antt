@@ -22,10 +22,12 @@ use Rattle.scope.specs.declared.Entry.{Entry}
 use Rattle.scope.specs.declared.Geometry.{Geometry}
 use Rattle.scope.specs.declared.Answer.the-variants.{Done}
 use Rattle.lists.proofs.Sums.{sum-next}
-use Rattle.geometry.proofs.Places.{order, sizes-alike, correlated-three}
+use Rattle.geometry.proofs.Places.{order, place-in, sizes-alike, correlated-full, correlated-three}
 use Rattle.places.proofs.Passed.{Passed, passed}
 use Rattle.places.proofs.Samples.{Below, below-none, below-append}
 use Rattle.places.proofs.Planes.{wire-below, wire-long, plane-below, place-below, place-at}
+use Rattle.places.proofs.Covering.{row-covered, row-once}
+use Rattle.places.specs.Picture.{pictureAt, ownAt, shownAt, Pictured}
 use Rattle.places.proofs.Colours.{colour-at, colour-long, colour-below}
 
 -- ---- planes one after another
@@ -66,6 +68,21 @@ picture-below frame g lengths i l =
     below-planes (2 ^ g .depth) (bufferPlane (correlated (g .family)) (g .depth) (wirePlane frame g lengths)) (planeCount g) (pow-pos (g .depth))
     (λ b. colour-below (correlated (g .family)) (g .depth) (wirePlane frame g lengths) (swapped (correlated (g .family)) b) (wire-below frame g lengths (swapped (correlated (g .family)) b))) i
 
+-- the planes of Rgb and Rgba have one width and one height
+module _ (g : Geometry) (e : correlated (g .family) ≡ true) (p q : ℕ) where
+  widths-alike : planeWidth g p ≡ planeWidth g q
+  unfolding geo.planeWidth geo.small
+  widths-alike = rw (correlated-full (g .family) e)
+
+  heights-alike : planeHeight g p ≡ planeHeight g q
+  unfolding geo.planeHeight geo.small
+  heights-alike = rw (correlated-full (g .family) e)
+
+-- a sum by the same terms; what is added matters only where something is
+shown-same : (rgb t : Bool) (m a b c d : ℕ) → a ≡ b → (rgb ≡ true → c ≡ d) → cond (rgb && t) ((a + c) % m) a ≡ cond (rgb && t) ((b + d) % m) b
+shown-same false t m a b c d e h = e
+shown-same true t m a b c d e h = rw (e, h refl)
+
 module _ (frame : Bytes) (g : Geometry) (lengths : Lengths) (ok : Passed frame g lengths) where
   -- the planes of Rgb and Rgba are as large as G
   green-long : correlated (g .family) ≡ true → (p : ℕ) → length (wirePlane frame g lengths 1) ≡ planeSamples g p
@@ -99,3 +116,49 @@ module _ (frame : Bytes) (g : Geometry) (lengths : Lengths) (ok : Passed frame g
       ∙ planes-at (bufferPlane (correlated (g .family)) (g .depth) (wirePlane frame g lengths)) (planeSamples g) (planeCount g) buffer-long (orderOf g p) (r * planeWidth g p + x)
       (order g .among p hp) (omega (arith, at-in p r x hr hx, order g .alike p hp))
       ∙ ap (λ (q : ℕ). getD (colourPlane (correlated (g .family)) (g .depth) (wirePlane frame g lengths) q) (r * planeWidth g p + x) 0) (order g .back p hp)
+
+  -- ---- a slice's rows in it
+
+  -- the rows of a place lie in the plane
+  row-in : (s : ℕ) → s < sliceCount g → (r : ℕ) → r < rowsAt g (planeIndex frame g s) (placeInPlane frame g s)
+      → firstRow g (planeIndex frame g s) (placeInPlane frame g s) + r < planeHeight g (planeIndex frame g s)
+  unfolding geo.rowsAt
+  row-in s l r hr = omega (arith, place-in g (ok .sound) (planeIndex frame g s) (placeInPlane frame g s) (place-below frame g lengths ok s l))
+
+  -- G is as it was stored
+  green-at : correlated (g .family) ≡ true → (p r x : ℕ) → r < planeHeight g p → x < planeWidth g p
+      → getD (wirePlane frame g lengths 1) (r * planeWidth g p + x) 0 ≡ pictureAt frame g lengths 1 r x
+  unfolding frm.colourPlane
+  green-at e p r x hr hx =
+      let w : planeWidth g p ≡ planeWidth g 1 = widths-alike g e p 1 in
+      let h : planeHeight g p ≡ planeHeight g 1 = heights-alike g e p 1 in
+      ap (λ (n : ℕ). getD (wirePlane frame g lengths 1) (r * n + x) 0) w
+      ∙ sym (picture-at 1 r x (omega (arith, correlated-three (g .family) e)) (omega (arith, h)) (omega (arith, w)) ∙ rw e)
+
+  pub picture-rows : (s : ℕ) → s < sliceCount g
+      → (r x : ℕ) → r < rowsAt g (planeIndex frame g s) (placeInPlane frame g s) → x < planeWidth g (planeIndex frame g s)
+      → pictureAt frame g lengths (planeIndex frame g s) (firstRow g (planeIndex frame g s) (placeInPlane frame g s) + r) x
+      ≡ shownAt frame g lengths (ownAt frame g lengths s r x) (planeIndex frame g s) (firstRow g (planeIndex frame g s) (placeInPlane frame g s) + r) x
+  picture-rows s l r x hr hx =
+      let p : ℕ = planeIndex frame g s in
+      let R : ℕ = firstRow g p (placeInPlane frame g s) + r in
+      let i : R * planeWidth g p + x < planeSamples g p = at-in p R x (row-in s l r hr) hx in
+      picture-at p R x (plane-below frame g lengths ok s l) (row-in s l r hr) hx
+      ∙ colour-at (correlated (g .family)) (g .depth) (wirePlane frame g lengths) p (R * planeWidth g p + x)
+      (omega (arith, i, wire-long frame g lengths ok p (plane-below frame g lengths ok s l))) (λ e. omega (arith, i, green-long e p))
+      ∙ shown-same (correlated (g .family)) (eqb p 0 || eqb p 2) (2 ^ g .depth) _ _ _ _ (place-at frame g lengths ok s l r x hr hx) (λ e. green-at e p R x (row-in s l r hr) hx)
+
+-- ---- all of it
+
+-- wherever the answer is planes
+pub pictured : (which : Entry) (frame : Bytes) (g : Geometry) (lengths : Lengths) (planesLen workspaceLen : ℕ)
+    → answerOf which frame g lengths planesLen workspaceLen ≡ Done → Pictured frame g lengths
+pictured which frame g lengths planesLen workspaceLen done =
+    let ok : Passed frame g lengths = passed which frame g lengths planesLen workspaceLen done in
+    record {
+      size = picture-size frame g lengths ok;
+      below = λ i l. picture-below frame g lengths i (omega (arith, l, picture-size frame g lengths ok));
+      rows = picture-rows frame g lengths ok;
+      covered = row-covered frame g lengths ok;
+      once = row-once frame g;
+    }

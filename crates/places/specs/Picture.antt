@@ -44,5 +44,6 @@ pub record Pictured (frame : Bytes) (g : Geometry) (lengths : Lengths) : Type 0 
       → (r x : ℕ) → r < rowsAt g (planeIndex frame g s) (placeInPlane frame g s) → x < planeWidth g (planeIndex frame g s)
       → pictureAt frame g lengths (planeIndex frame g s) (firstRow g (planeIndex frame g s) (placeInPlane frame g s) + r) x
       ≡ shownAt frame g lengths (ownAt frame g lengths s r x) (planeIndex frame g s) (firstRow g (planeIndex frame g s) (placeInPlane frame g s) + r) x
-  -- "Success .. defines every sample.": every row of every plane is in the rows of one slice
+  -- "Success .. defines every sample.": every row of every plane is in the rows of a slice, and of no other
   pub covered : (p r : ℕ) → p < planeCount g → r < planeHeight g p → (s : ℕ) × Covers frame g p r s
+  pub once : (p r s t : ℕ) → Covers frame g p r s → Covers frame g p r t → s ≡ t

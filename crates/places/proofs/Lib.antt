@@ -3,4 +3,5 @@ pub mod Samples
 pub mod Planes
 pub mod Colours
 pub mod Covering
+pub mod Rows
 pub mod Picture

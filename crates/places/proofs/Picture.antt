@@ -1,152 +1,149 @@
--- Document 01's picture sample by sample, from scope's definition of it as planes one after another ("Planes lie one after another with no
--- gaps."). Assumes nothing.
+-- Document 01's picture sample by sample: all that specs/Picture.antt says of it, wherever the answer is planes; and first that no other
+-- buffer has every slice's samples where they belong. Assumes nothing.
 use mathlib.Core.Path.{_≡_, refl, sym, ap, _∙_, subst}
 use mathlib.Core.Bool.{Bool, true, false, cond, _&&_, _||_}
-use mathlib.Core.List.{List, [], _++_}
-use Prim.Native.Nat.{ℕ, zero, suc, _+_, _-_, _*_, _%_, _^_, _≤_, _<_}
-use native.Mathlib.Decide.{ℕ-discrete}
-use native.Mathlib.Nat.{suc-mul, mul-comm, mul-le-mul-right}
+use Prim.Native.Nat.{ℕ, zero, suc, _+_, _-_, _*_, _/_, _%_, _^_, _≤_, _<_}
+use native.Mathlib.Decide.{decLe}
+use native.Mathlib.Nat.{mul-comm, div-lt-iff-lt-mul, div-mul-le-self, lt-div-mul-add}
 use native.Mathlib.Omega.{arith}
 use lib.Dec.{eqb}
-use lib.ListN.{length, getD, length-append, List·getD-append}
-use lib.Pow.{pow-pos}
-use lib.Seq.{getD-append-add}
+use lib.ListN.{length, getD}
+use lib.Seq.{ext-getD}
 use Rattle.scope.specs.Base as base
-use Rattle.scope.specs.Base.{Bytes, Lengths, Samples, sumBelow}
+use Rattle.scope.specs.Base.{Bytes, Lengths, Samples, one, sumBelow}
 use Rattle.scope.specs.Geometry as geo
-use Rattle.scope.specs.Geometry.{correlated, planeCount, slicesPerPlane, sliceCount, planeWidth, planeHeight, firstRow, rowsAt, planeSamples, allSamples, swapped, orderOf, rowStart}
+use Rattle.scope.specs.Geometry.{correlated, planeCount, sliceCount, planeWidth, planeHeight, firstRow, rowsAt, planeSamples, allSamples, orderOf, rowStart}
 use Rattle.scope.specs.Layout.{planeIndex, placeInPlane}
-use Rattle.scope.specs.Frame as frm
-use Rattle.scope.specs.Frame.{answerOf, sliceSamples, wirePlane, colourPlane, bufferPlane, planesUpTo, pictureOf}
+use Rattle.scope.specs.Frame.{answerOf, pictureOf}
 use Rattle.scope.specs.declared.Entry.{Entry}
 use Rattle.scope.specs.declared.Geometry.{Geometry}
 use Rattle.scope.specs.declared.Answer.the-variants.{Done}
-use Rattle.lists.proofs.Sums.{sum-next}
-use Rattle.geometry.proofs.Places.{order, place-in, sizes-alike, correlated-full, correlated-three}
+use Rattle.lists.proofs.Tests.{and-both}
+use Rattle.geometry.proofs.Places.{order, correlated-three, width-fits}
+use Rattle.geometry.specs.Sound.{Sound}
+use Rattle.places.specs.Picture.{sampleAt, AllStand, Covers, Pictured}
 use Rattle.places.proofs.Passed.{Passed, passed}
-use Rattle.places.proofs.Samples.{Below, below-none, below-append}
-use Rattle.places.proofs.Planes.{wire-below, wire-long, plane-below, place-below, place-at}
 use Rattle.places.proofs.Covering.{row-covered, row-once}
-use Rattle.places.specs.Picture.{pictureAt, ownAt, shownAt, Pictured}
-use Rattle.places.proofs.Colours.{colour-at, colour-long, colour-below}
+use Rattle.places.proofs.Rows.{picture-below, widths-alike, heights-alike, picture-size, picture-rows}
 
--- ---- planes one after another
+-- ---- every place in the buffer is a row and column of a plane
 
--- together as long as they are one by one
-planes-long : (f : ℕ → Samples) (size : ℕ → ℕ) (n : ℕ) → ((b : ℕ) → b < n → length (f b) ≡ size b) → length (planesUpTo f n) ≡ sumBelow n size
-unfolding frm.planesUpTo base.sumBelow
-planes-long f size zero h = refl
-planes-long f size (suc n) h =
-    length-append (planesUpTo f n) (f n) ∙ omega (arith, planes-long f size n (λ b l. h b (omega arith)), h n (omega arith))
+-- a place below a sum lies in one of its terms
+record InTerm (size : ℕ → ℕ) (n i : ℕ) : Type 0 where
+  term : ℕ
+  inside : ℕ
+  term-in : term < n
+  inside-in : inside < size term
+  is : i ≡ sumBelow term size + inside
 
--- plane b begins where those before it end
-planes-at : (f : ℕ → Samples) (size : ℕ → ℕ) (n : ℕ) → ((b : ℕ) → b < n → length (f b) ≡ size b) → (b i : ℕ) → b < n → i < size b
-    → getD (planesUpTo f n) (sumBelow b size + i) 0 ≡ getD (f b) i 0
-unfolding frm.planesUpTo
-planes-at f size (suc n) h b i l k = go (ℕ-discrete b n) (planes-at f size n (λ c m. h c (omega arith)) b i)
+in-term : (size : ℕ → ℕ) (n i : ℕ) → i < sumBelow n size → InTerm size n i
+unfolding base.sumBelow
+in-term size zero i l = absurd (omega (arith, l))
+in-term size (suc n) i l = go (decLe (suc i) (sumBelow n size)) (in-term size n i)
   where
-    long : length (planesUpTo f n) ≡ sumBelow n size
-    long = planes-long f size n (λ c m. h c (omega arith))
+    go : Dec (suc i ≤ sumBelow n size) → (i < sumBelow n size → InTerm size n i) → InTerm size (suc n) i
+    go (yes h) more =
+        let c : InTerm size n i = more h in
+        record { term = c .term; inside = c .inside; term-in = omega (arith, c .term-in); inside-in = c .inside-in; is = c .is }
+    go (no h) more = record { term = n; inside = i - sumBelow n size; term-in = omega arith; inside-in = omega (arith, l, h); is = omega (arith, h) }
 
-    go : Dec (b ≡ n) → (b < n → i < size b → getD (planesUpTo f n) (sumBelow b size + i) 0 ≡ getD (f b) i 0) → getD (planesUpTo f n ++ f n) (sumBelow b size + i) 0 ≡ getD (f b) i 0
-    go (yes e) more = rw (e, ← long) (getD-append-add (planesUpTo f n) (f n) i 0)
-    go (no e) more =
-        List·getD-append (planesUpTo f n) (f n) 0 (sumBelow b size + i) (omega (arith, long, e, sum-next size b n (omega (arith, e))))
-        ∙ more (omega (arith, e)) k
+record Somewhere (g : Geometry) (i : ℕ) : Type 0 where
+  plane : ℕ
+  row : ℕ
+  column : ℕ
+  plane-in : plane < planeCount g
+  row-in : row < planeHeight g plane
+  column-in : column < planeWidth g plane
+  is : i ≡ rowStart g plane row + column
 
-below-planes : (m : ℕ) (f : ℕ → Samples) (n : ℕ) → 0 < m → ((b : ℕ) → Below m (f b)) → Below m (planesUpTo f n)
-unfolding frm.planesUpTo
-below-planes m f zero h k = below-none m h
-below-planes m f (suc n) h k = below-append m (planesUpTo f n) (f n) (below-planes m f n h k) (k n)
+module _ (g : Geometry) (sound : Sound g) where
+  -- place j of the stretch of plane p
+  in-plane : (p j : ℕ) → p < planeCount g → j < planeSamples g p → Somewhere g (sumBelow (orderOf g p) (planeSamples g) + j)
+  unfolding geo.planeSamples geo.rowStart geo.planeStart
+  in-plane p j hp hj =
+      let some : 1 ≤ planeWidth g p = width-fits g sound p .0 in
+      let h : j / planeWidth g p < planeHeight g p = div-lt-iff-lt-mul some .1 (omega (arith, hj, mul-comm (planeWidth g p) (planeHeight g p))) in
+      record {
+        plane = p;
+        row = j / planeWidth g p;
+        column = j - j / planeWidth g p * planeWidth g p;
+        plane-in = hp;
+        row-in = h;
+        column-in = omega (arith, lt-div-mul-add {a = j} {b = planeWidth g p} some, div-mul-le-self j (planeWidth g p));
+        is = omega (arith, div-mul-le-self j (planeWidth g p));
+      }
 
--- ---- the picture
+  somewhere : (i : ℕ) → i < allSamples g → Somewhere g i
+  unfolding geo.allSamples
+  somewhere i l = go (in-term (planeSamples g) (planeCount g) i l)
+    where
+      go : InTerm (planeSamples g) (planeCount g) i → Somewhere g i
+      go c =
+          let e : sumBelow (orderOf g (orderOf g (c .term))) (planeSamples g) + c .inside ≡ i = ap (λ (b : ℕ). sumBelow b (planeSamples g) + c .inside) (order g .back (c .term) (c .term-in)) ∙ sym (c .is) in
+          subst (Somewhere g) e (in-plane (orderOf g (c .term)) (c .inside) (order g .among (c .term) (c .term-in)) (omega (arith, c .inside-in, order g .alike (c .term) (c .term-in))))
 
--- no sample of it needs more than depth bits, whatever the frame
-pub picture-below : (frame : Bytes) (g : Geometry) (lengths : Lengths) (i : ℕ) → i < length (pictureOf frame g lengths) → getD (pictureOf frame g lengths) i 0 < 2 ^ g .depth
-unfolding frm.pictureOf
-picture-below frame g lengths i l =
-    below-planes (2 ^ g .depth) (bufferPlane (correlated (g .family)) (g .depth) (wirePlane frame g lengths)) (planeCount g) (pow-pos (g .depth))
-    (λ b. colour-below (correlated (g .family)) (g .depth) (wirePlane frame g lengths) (swapped (correlated (g .family)) b) (wire-below frame g lengths (swapped (correlated (g .family)) b))) i
+-- ---- no other buffer
 
--- the planes of Rgb and Rgba have one width and one height
-module _ (g : Geometry) (e : correlated (g .family) ≡ true) (p q : ℕ) where
-  widths-alike : planeWidth g p ≡ planeWidth g q
-  unfolding geo.planeWidth geo.small
-  widths-alike = rw (correlated-full (g .family) e)
+-- a sum of the same terms
+sum-same : (t : Bool) (m a c d : ℕ) → (t ≡ true → c ≡ d) → cond t ((a + c) % m) a ≡ cond t ((a + d) % m) a
+sum-same false m a c d h = refl
+sum-same true m a c d h = rw (h refl)
 
-  heights-alike : planeHeight g p ≡ planeHeight g q
-  unfolding geo.planeHeight geo.small
-  heights-alike = rw (correlated-full (g .family) e)
+-- in plane 1 nothing is added
+none-added : (rgb : Bool) → (rgb && (eqb 1 0 || eqb 1 2)) ≡ true → ⊥
+none-added rgb e =
+    let z : false ≡ true = and-both rgb (eqb 1 0 || eqb 1 2) e .1 in
+    let y : _≡_ {A = ℕ} 0 1 = ap one z in
+    omega (arith, y)
 
--- a sum by the same terms; what is added matters only where something is
-shown-same : (rgb t : Bool) (m a b c d : ℕ) → a ≡ b → (rgb ≡ true → c ≡ d) → cond (rgb && t) ((a + c) % m) a ≡ cond (rgb && t) ((b + d) % m) b
-shown-same false t m a b c d e h = e
-shown-same true t m a b c d e h = rw (e, h refl)
+module _ (frame : Bytes) (g : Geometry) (lengths : Lengths) (xs ys : Samples) (hx : AllStand frame g lengths xs) (hy : AllStand frame g lengths ys) where
+  -- in the rows of slice s two such buffers hold the same, where G is the same
+  same-slice : (s : ℕ) → s < sliceCount g → (r x : ℕ) → r < rowsAt g (planeIndex frame g s) (placeInPlane frame g s) → x < planeWidth g (planeIndex frame g s)
+      → ((correlated (g .family) && (eqb (planeIndex frame g s) 0 || eqb (planeIndex frame g s) 2)) ≡ true
+      → sampleAt g xs 1 (firstRow g (planeIndex frame g s) (placeInPlane frame g s) + r) x ≡ sampleAt g ys 1 (firstRow g (planeIndex frame g s) (placeInPlane frame g s) + r) x)
+      → sampleAt g xs (planeIndex frame g s) (firstRow g (planeIndex frame g s) (placeInPlane frame g s) + r) x
+      ≡ sampleAt g ys (planeIndex frame g s) (firstRow g (planeIndex frame g s) (placeInPlane frame g s) + r) x
+  same-slice s l r x hr hc green = hx s r x l hr hc ∙ sum-same _ _ _ _ _ green ∙ sym (hy s r x l hr hc)
 
-module _ (frame : Bytes) (g : Geometry) (lengths : Lengths) (ok : Passed frame g lengths) where
-  -- the planes of Rgb and Rgba are as large as G
-  green-long : correlated (g .family) ≡ true → (p : ℕ) → length (wirePlane frame g lengths 1) ≡ planeSamples g p
-  green-long e p = wire-long frame g lengths ok 1 (omega (arith, correlated-three (g .family) e)) ∙ sizes-alike g e 1 p
+  -- the same by row r of the plane p that it names
+  at-row : (s r x : ℕ) → Covers frame g (planeIndex frame g s) r s → x < planeWidth g (planeIndex frame g s)
+      → ((correlated (g .family) && (eqb (planeIndex frame g s) 0 || eqb (planeIndex frame g s) 2)) ≡ true → sampleAt g xs 1 r x ≡ sampleAt g ys 1 r x)
+      → sampleAt g xs (planeIndex frame g s) r x ≡ sampleAt g ys (planeIndex frame g s) r x
+  at-row s r x c hc green =
+      let k : ℕ = firstRow g (planeIndex frame g s) (placeInPlane frame g s) in
+      let e : k + (r - k) ≡ r = omega (arith, c .from) in
+      subst (λ (n : ℕ). sampleAt g xs (planeIndex frame g s) n x ≡ sampleAt g ys (planeIndex frame g s) n x) e
+      (same-slice s (c .among) (r - k) x (omega (arith, c .from, c .to)) hc
+      (λ t. subst (λ (n : ℕ). sampleAt g xs 1 n x ≡ sampleAt g ys 1 n x) (sym e) (green t)))
 
-  plane-long : (p : ℕ) → p < planeCount g → length (colourPlane (correlated (g .family)) (g .depth) (wirePlane frame g lengths) p) ≡ planeSamples g p
-  plane-long p l =
-      colour-long (correlated (g .family)) (g .depth) (wirePlane frame g lengths) p (λ e. wire-long frame g lengths ok p l ∙ sym (green-long e p))
-      ∙ wire-long frame g lengths ok p l
+  same-row : (s r x p : ℕ) → planeIndex frame g s ≡ p → Covers frame g p r s → x < planeWidth g p
+      → ((correlated (g .family) && (eqb p 0 || eqb p 2)) ≡ true → sampleAt g xs 1 r x ≡ sampleAt g ys 1 r x)
+      → sampleAt g xs p r x ≡ sampleAt g ys p r x
+  same-row s r x p e =
+      subst (λ (q : ℕ). Covers frame g q r s → x < planeWidth g q → ((correlated (g .family) && (eqb q 0 || eqb q 2)) ≡ true → sampleAt g xs 1 r x ≡ sampleAt g ys 1 r x) → sampleAt g xs q r x ≡ sampleAt g ys q r x)
+      e (at-row s r x)
 
-  buffer-long : (b : ℕ) → b < planeCount g → length (bufferPlane (correlated (g .family)) (g .depth) (wirePlane frame g lengths) b) ≡ planeSamples g b
-  buffer-long b l = plane-long (orderOf g b) (order g .among b l) ∙ order g .alike b l
+  module _ (ok : Passed frame g lengths) where
+    -- so G is the same everywhere, and then every plane is
+    same-green : (r x : ℕ) → 1 < planeCount g → r < planeHeight g 1 → x < planeWidth g 1 → sampleAt g xs 1 r x ≡ sampleAt g ys 1 r x
+    same-green r x hp hr hc =
+        let c = row-covered frame g lengths ok 1 r hp hr in
+        same-row (c .0) r x 1 (c .1 .names) (c .1) hc (λ t. absurd (none-added (correlated (g .family)) t))
 
-  -- as many samples as the planes have
-  pub picture-size : length (pictureOf frame g lengths) ≡ allSamples g
-  unfolding frm.pictureOf geo.allSamples
-  picture-size = planes-long _ (planeSamples g) (planeCount g) buffer-long
+    same-at : (p r x : ℕ) → p < planeCount g → r < planeHeight g p → x < planeWidth g p → sampleAt g xs p r x ≡ sampleAt g ys p r x
+    same-at p r x hp hr hc =
+        let c = row-covered frame g lengths ok p r hp hr in
+        same-row (c .0) r x p (c .1 .names) (c .1) hc (λ t. mixed (and-both (correlated (g .family)) (eqb p 0 || eqb p 2) t .0))
+      where
+        mixed : correlated (g .family) ≡ true → sampleAt g xs 1 r x ≡ sampleAt g ys 1 r x
+        mixed e =
+            same-green r x (omega (arith, correlated-three (g .family) e)) (omega (arith, hr, heights-alike g e p 1)) (omega (arith, hc, widths-alike g e p 1))
 
-  -- row r and column x lie in the plane
-  at-in : (p r x : ℕ) → r < planeHeight g p → x < planeWidth g p → r * planeWidth g p + x < planeSamples g p
-  unfolding geo.planeSamples
-  at-in p r x hr hx = omega (arith, mul-comm (planeWidth g p) (planeHeight g p), mul-le-mul-right (planeWidth g p) hr, suc-mul r (planeWidth g p))
-
-  -- row r of the wire's plane p stands at rowStart
-  pub picture-at : (p r x : ℕ) → p < planeCount g → r < planeHeight g p → x < planeWidth g p
-      → getD (pictureOf frame g lengths) (rowStart g p r + x) 0 ≡ getD (colourPlane (correlated (g .family)) (g .depth) (wirePlane frame g lengths) p) (r * planeWidth g p + x) 0
-  unfolding frm.pictureOf geo.rowStart geo.planeStart
-  picture-at p r x hp hr hx =
-      let e : sumBelow (orderOf g p) (planeSamples g) + r * planeWidth g p + x ≡ sumBelow (orderOf g p) (planeSamples g) + (r * planeWidth g p + x) = omega arith in
-      ap (λ (n : ℕ). getD (planesUpTo (bufferPlane (correlated (g .family)) (g .depth) (wirePlane frame g lengths)) (planeCount g)) n 0) e
-      ∙ planes-at (bufferPlane (correlated (g .family)) (g .depth) (wirePlane frame g lengths)) (planeSamples g) (planeCount g) buffer-long (orderOf g p) (r * planeWidth g p + x)
-      (order g .among p hp) (omega (arith, at-in p r x hr hx, order g .alike p hp))
-      ∙ ap (λ (q : ℕ). getD (colourPlane (correlated (g .family)) (g .depth) (wirePlane frame g lengths) q) (r * planeWidth g p + x) 0) (order g .back p hp)
-
-  -- ---- a slice's rows in it
-
-  -- the rows of a place lie in the plane
-  row-in : (s : ℕ) → s < sliceCount g → (r : ℕ) → r < rowsAt g (planeIndex frame g s) (placeInPlane frame g s)
-      → firstRow g (planeIndex frame g s) (placeInPlane frame g s) + r < planeHeight g (planeIndex frame g s)
-  unfolding geo.rowsAt
-  row-in s l r hr = omega (arith, place-in g (ok .sound) (planeIndex frame g s) (placeInPlane frame g s) (place-below frame g lengths ok s l))
-
-  -- G is as it was stored
-  green-at : correlated (g .family) ≡ true → (p r x : ℕ) → r < planeHeight g p → x < planeWidth g p
-      → getD (wirePlane frame g lengths 1) (r * planeWidth g p + x) 0 ≡ pictureAt frame g lengths 1 r x
-  unfolding frm.colourPlane
-  green-at e p r x hr hx =
-      let w : planeWidth g p ≡ planeWidth g 1 = widths-alike g e p 1 in
-      let h : planeHeight g p ≡ planeHeight g 1 = heights-alike g e p 1 in
-      ap (λ (n : ℕ). getD (wirePlane frame g lengths 1) (r * n + x) 0) w
-      ∙ sym (picture-at 1 r x (omega (arith, correlated-three (g .family) e)) (omega (arith, h)) (omega (arith, w)) ∙ rw e)
-
-  pub picture-rows : (s : ℕ) → s < sliceCount g
-      → (r x : ℕ) → r < rowsAt g (planeIndex frame g s) (placeInPlane frame g s) → x < planeWidth g (planeIndex frame g s)
-      → pictureAt frame g lengths (planeIndex frame g s) (firstRow g (planeIndex frame g s) (placeInPlane frame g s) + r) x
-      ≡ shownAt frame g lengths (ownAt frame g lengths s r x) (planeIndex frame g s) (firstRow g (planeIndex frame g s) (placeInPlane frame g s) + r) x
-  picture-rows s l r x hr hx =
-      let p : ℕ = planeIndex frame g s in
-      let R : ℕ = firstRow g p (placeInPlane frame g s) + r in
-      let i : R * planeWidth g p + x < planeSamples g p = at-in p R x (row-in s l r hr) hx in
-      picture-at p R x (plane-below frame g lengths ok s l) (row-in s l r hr) hx
-      ∙ colour-at (correlated (g .family)) (g .depth) (wirePlane frame g lengths) p (R * planeWidth g p + x)
-      (omega (arith, i, wire-long frame g lengths ok p (plane-below frame g lengths ok s l))) (λ e. omega (arith, i, green-long e p))
-      ∙ shown-same (correlated (g .family)) (eqb p 0 || eqb p 2) (2 ^ g .depth) _ _ _ _ (place-at frame g lengths ok s l r x hr hx) (λ e. green-at e p R x (row-in s l r hr) hx)
+    same-buffer : length xs ≡ allSamples g → length ys ≡ allSamples g → xs ≡ ys
+    same-buffer ex ey = ext-getD 0 xs ys (ex ∙ sym ey) (λ i l. go i (somewhere g (ok .sound) i (omega (arith, l, ex))))
+      where
+        go : (i : ℕ) → Somewhere g i → getD xs i 0 ≡ getD ys i 0
+        go i c = rw (c .is) (same-at (c .plane) (c .row) (c .column) (c .plane-in) (c .row-in) (c .column-in))
 
 -- ---- all of it
 
@@ -161,4 +158,5 @@ pictured which frame g lengths planesLen workspaceLen done =
       rows = picture-rows frame g lengths ok;
       covered = row-covered frame g lengths ok;
       once = row-once frame g;
+      only = λ buffer e h. same-buffer frame g lengths buffer (pictureOf frame g lengths) h (picture-rows frame g lengths ok) ok e (picture-size frame g lengths ok);
     }

@@ -1,5 +1,5 @@
 -- Document 01, "B and R are B'+G and R'+G modulo 2^depth": a coloured plane, sample by sample. Assumes nothing.
-use mathlib.Core.Path.{_≡_, refl, sym, ap, _∙_}
+use mathlib.Core.Path.{_≡_, refl}
 use mathlib.Core.Bool.{Bool, true, false, cond, _&&_, _||_}
 use mathlib.Core.List.{List, [], _∷_}
 use Prim.Native.Nat.{ℕ, zero, suc, _+_, _%_, _^_, _<_}
@@ -17,6 +17,7 @@ use Rattle.places.proofs.Samples.{Below, below-none}
 
 -- ---- one plane added to another
 
+-- sample i of the sum
 plus-at : (depth : ℕ) (xs ys : List ℕ) (i : ℕ) → i < length xs → i < length ys → getD (plus depth xs ys) i 0 ≡ (getD xs i 0 + getD ys i 0) % 2 ^ depth
 unfolding plus
 plus-at depth [] ys i h k = absurd (omega (arith, h))
@@ -24,12 +25,18 @@ plus-at depth (x ∷ xs) [] i h k = absurd (omega (arith, k))
 plus-at depth (x ∷ xs) (y ∷ ys) zero h k = refl
 plus-at depth (x ∷ xs) (y ∷ ys) (suc i) h k = plus-at depth xs ys i (omega arith) (omega arith)
 
+-- is below 2^depth
 plus-below : (depth : ℕ) (xs ys : List ℕ) → Below (2 ^ depth) (plus depth xs ys)
 unfolding plus
 plus-below depth [] ys i = below-none (2 ^ depth) (pow-pos depth) i
 plus-below depth (x ∷ xs) [] i = below-none (2 ^ depth) (pow-pos depth) i
 plus-below depth (x ∷ xs) (y ∷ ys) zero = mod-lt (x + y) (pow-pos depth)
 plus-below depth (x ∷ xs) (y ∷ ys) (suc i) = plus-below depth xs ys i
+
+-- a sum of the same terms, where there is one
+pub sum-same : (t : Bool) (m a b c d : ℕ) → a ≡ b → (t ≡ true → c ≡ d) → cond t ((a + c) % m) a ≡ cond t ((b + d) % m) b
+sum-same false m a b c d e h = e
+sum-same true m a b c d e h = rw (e, h refl)
 
 -- ---- a coloured plane
 

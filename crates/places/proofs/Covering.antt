@@ -1,7 +1,7 @@
 -- Document 01, "Success .. defines every sample": every row of every plane lies in the rows of a slice that names the plane, and of no
 -- other. Refusal 8 leaves K slices for each plane, whose places are 0 to K − 1, and K places cover a plane. Assumes nothing.
-use mathlib.Core.Path.{_≡_, refl, sym, ap, _∙_, subst}
-use Prim.Native.Nat.{ℕ, zero, suc, _+_, _-_, _*_, _/_, _≤_, _<_}
+use mathlib.Core.Path.{_≡_, sym, ap, _∙_, subst}
+use Prim.Native.Nat.{ℕ, zero, suc, _+_, _-_, _/_, _≤_, _<_}
 use native.Mathlib.Decide.{ℕ-discrete, decLe}
 use native.Mathlib.Nat.{add-zero, add-suc, suc-mul, mul-le-mul-right, div-lt-iff-lt-mul, div-mul-le-self, lt-div-mul-add}
 use native.Mathlib.Omega.{arith}
@@ -27,6 +27,7 @@ record Numbered (frame : Bytes) (g : Geometry) (p k n : ℕ) : Type 0 where
   place : namedBefore frame g p slice ≡ k
 
 module _ (frame : Bytes) (g : Geometry) (p : ℕ) where
+  -- which more slices do not change
   later : (k n : ℕ) → Numbered frame g p k n → Numbered frame g p k (suc n)
   later k n c = record { slice = c .slice; among = omega (arith, c .among); names = c .names; place = c .place }
 
@@ -54,11 +55,12 @@ module _ (g : Geometry) (p r : ℕ) (some : 1 ≤ planeSliceHeight g p) where
   row-from : firstRow g p (r / planeSliceHeight g p) ≤ r
   row-from = div-mul-le-self r (planeSliceHeight g p)
 
+  -- and, where it is one of the plane's, before its end
   row-to : r < planeHeight g p → r < firstRow g p (r / planeSliceHeight g p) + rowsAt g p (r / planeSliceHeight g p)
   unfolding geo.rowsAt
   row-to l = omega (arith, lt-div-mul-add {a = r} {b = planeSliceHeight g p} some, row-from)
 
--- and in no later one
+-- a row of one place is in no later one
 rows-apart : (g : Geometry) (p j k r : ℕ) → j < k → r < firstRow g p j + rowsAt g p j → r < firstRow g p k
 unfolding geo.rowsAt
 rows-apart g p j k r l h = omega (arith, suc-mul j (planeSliceHeight g p), mul-le-mul-right (planeSliceHeight g p) l)
@@ -66,6 +68,7 @@ rows-apart g p j k r l h = omega (arith, suc-mul j (planeSliceHeight g p), mul-l
 -- ---- every row
 
 module _ (frame : Bytes) (g : Geometry) (lengths : Lengths) (ok : Passed frame g lengths) where
+  -- the slice at that place has row r
   covers : (p r : ℕ) → r < planeHeight g p → (c : Numbered frame g p (r / planeSliceHeight g p) (sliceCount g)) → Covers frame g p r (c .slice)
   unfolding lay.placeInPlane
   covers p r l c =
@@ -73,7 +76,7 @@ module _ (frame : Bytes) (g : Geometry) (lengths : Lengths) (ok : Passed frame g
       let e : placeInPlane frame g (c .slice) ≡ r / planeSliceHeight g p = ap (λ (q : ℕ). namedBefore frame g q (c .slice)) (c .names) ∙ c .place in
       record { among = c .among; names = c .names; from = rw e (row-from g p r some); to = rw e (row-to g p r some l) }
 
-  -- lies in the rows of a slice
+  -- every row lies in the rows of a slice: K places cover the plane, and each is taken
   pub row-covered : (p r : ℕ) → p < planeCount g → r < planeHeight g p → (s : ℕ) × Covers frame g p r s
   row-covered p r lp lr =
       let some : 1 ≤ planeSliceHeight g p = slice-height-fits g (ok .sound) p .0 in
@@ -95,7 +98,7 @@ not-later : (frame : Bytes) (g : Geometry) (p r s t : ℕ) → Covers frame g p 
 not-later frame g p r s t a b l =
     omega (arith, b .from, rows-apart g p (placeInPlane frame g s) (placeInPlane frame g t) r (place-later frame g p s t (a .names) (b .names) l) (a .to))
 
--- and in those of no other
+-- and no row is in those of two
 pub row-once : (frame : Bytes) (g : Geometry) (p r s t : ℕ) → Covers frame g p r s → Covers frame g p r t → s ≡ t
 row-once frame g p r s t a b = go (decLe (suc s) t) (decLe (suc t) s)
   where

@@ -4,4 +4,5 @@ pub mod Planes
 pub mod Colours
 pub mod Covering
 pub mod Rows
+pub mod Only
 pub mod Picture

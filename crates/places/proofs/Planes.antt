@@ -2,7 +2,7 @@
 -- Document 01, "Place k covers rows from k times the plane's slice height, cut at the plane's height." Assumes nothing.
 use mathlib.Core.Path.{_≡_, refl, sym, ap, _∙_, subst}
 use mathlib.Core.Bool.{Bool, true, false, cond}
-use mathlib.Core.List.{List, [], _++_, append-nil}
+use mathlib.Core.List.{[], _++_, append-nil}
 use Prim.Native.Nat.{ℕ, zero, suc, _+_, _-_, _*_, _^_, _≤_, _<_}
 use native.Mathlib.Decide.{ℕ-discrete}
 use native.Mathlib.Nat.{add-zero, add-suc, suc-mul, add-mul, mul-le-mul-right}
@@ -41,18 +41,34 @@ module _ (frame : Bytes) (g : Geometry) (lengths : Lengths) where
   unfolding frm.planeUpTo
   plane-other p s ne = rw (ne-eqb (planeIndex frame g s) p (λ z. ne (sym z))) (append-nil (planeUpTo frame g lengths p s))
 
-  -- what the first n slices made of a plane stays as it is
+  -- more slices make a plane no shorter
   stays-long : (p n k : ℕ) → length (planeUpTo frame g lengths p n) ≤ length (planeUpTo frame g lengths p (n + k))
   unfolding frm.planeUpTo
   stays-long p n zero = rw add-zero (omega arith)
   stays-long p n (suc k) = rw (add-suc, length-append) (omega (arith, stays-long p n k))
 
+  -- and what the first n made of it stays as it is
   stays : (p n k i : ℕ) → i < length (planeUpTo frame g lengths p n) → getD (planeUpTo frame g lengths p (n + k)) i 0 ≡ getD (planeUpTo frame g lengths p n) i 0
   unfolding frm.planeUpTo
   stays p n zero i l = rw add-zero
   stays p n (suc k) i l =
       rw add-suc
       (List·getD-append (planeUpTo frame g lengths p (n + k)) _ 0 i (omega (arith, stays-long p n k)) ∙ stays p n k i l)
+
+  -- what slice s adds to its plane stands behind what the slices before it made of it
+  behind : (s i : ℕ) → s < sliceCount g → i < length (sliceSamples frame g lengths s)
+      → getD (wirePlane frame g lengths (planeIndex frame g s)) (length (planeUpTo frame g lengths (planeIndex frame g s) s) + i) 0 ≡ getD (sliceSamples frame g lengths s) i 0
+  unfolding frm.wirePlane
+  behind s i l h =
+      let p : ℕ = planeIndex frame g s in
+      let before : Samples = planeUpTo frame g lengths p s in
+      let z : suc s + (sliceCount g - suc s) ≡ sliceCount g = omega arith in
+      let e : length (planeUpTo frame g lengths p (suc s)) ≡ length before + length (sliceSamples frame g lengths s) =
+      ap length (plane-here s) ∙ length-append before (sliceSamples frame g lengths s) in
+      ap (λ (n : ℕ). getD (planeUpTo frame g lengths p n) (length before + i) 0) (sym z)
+      ∙ stays p (suc s) (sliceCount g - suc s) (length before + i) (omega (arith, e, h))
+      ∙ ap (λ (q : Samples). getD q (length before + i) 0) (plane-here s)
+      ∙ getD-append-add before (sliceSamples frame g lengths s) i 0
 
   -- every sample of a plane is one of a slice
   below-upto : (p s : ℕ) → Below (2 ^ g .depth) (planeUpTo frame g lengths p s)
@@ -71,24 +87,26 @@ module _ (frame : Bytes) (g : Geometry) (lengths : Lengths) where
 -- ---- once no row applies
 
 module _ (frame : Bytes) (g : Geometry) (lengths : Lengths) (ok : Passed frame g lengths) where
-  -- slice s names a plane, and its place is one of that plane's K
+  -- slice s names a plane
   pub plane-below : (s : ℕ) → s < sliceCount g → planeIndex frame g s < planeCount g
   plane-below s l = index-below frame g s (each-passed (indexCheck frame g) (sliceCount g) s (ok .indices) l)
 
+  -- and its place is one of that plane's K
   pub place-below : (s : ℕ) → s < sliceCount g → placeInPlane frame g s < slicesPerPlane g
   place-below s l = index-room frame g s (each-passed (indexCheck frame g) (sliceCount g) s (ok .indices) l)
 
-  -- the slices before s that name a plane fill its first places: one more slice of the plane, and any number of slices
-  one-more : (s : ℕ) → s < sliceCount g
+  -- one more slice fills one more place of its plane
+  fills-more : (s : ℕ) → s < sliceCount g
       → length (planeUpTo frame g lengths (planeIndex frame g s) s) ≡ filled g (planeIndex frame g s) (namedBefore frame g (planeIndex frame g s) s)
       → length (planeUpTo frame g lengths (planeIndex frame g s) (suc s)) ≡ filled g (planeIndex frame g s) (namedBefore frame g (planeIndex frame g s) (suc s))
   unfolding lay.samplesIn lay.placeInPlane
-  one-more s l h =
+  fills-more s l h =
       ap length (plane-here frame g lengths s)
       ∙ length-append (planeUpTo frame g lengths (planeIndex frame g s) s) (sliceSamples frame g lengths s)
       ∙ rw (h, slice-long frame g lengths ok s l) (sym (filled-next g (planeIndex frame g s) (namedBefore frame g (planeIndex frame g s) s)))
       ∙ ap (filled g (planeIndex frame g s)) (sym (named-here frame g s))
 
+  -- so the slices before s that name a plane fill its first places
   upto-long : (p s : ℕ) → s ≤ sliceCount g → length (planeUpTo frame g lengths p s) ≡ filled g p (namedBefore frame g p s)
   unfolding frm.planeUpTo lay.namedBefore
   upto-long p zero l = sym (filled-none g p)
@@ -96,7 +114,7 @@ module _ (frame : Bytes) (g : Geometry) (lengths : Lengths) (ok : Passed frame g
     where
       go : Dec (p ≡ planeIndex frame g s) → length (planeUpTo frame g lengths p s) ≡ filled g p (namedBefore frame g p s) → length (planeUpTo frame g lengths p (suc s)) ≡ filled g p (namedBefore frame g p (suc s))
       go (yes e) h = subst (λ (q : ℕ). length (planeUpTo frame g lengths q (suc s)) ≡ filled g q (namedBefore frame g q (suc s))) (sym e)
-          (one-more s l (subst (λ (q : ℕ). length (planeUpTo frame g lengths q s) ≡ filled g q (namedBefore frame g q s)) e h))
+          (fills-more s l (subst (λ (q : ℕ). length (planeUpTo frame g lengths q s) ≡ filled g q (namedBefore frame g q s)) e h))
       go (no e) h = ap length (plane-other frame g lengths p s e) ∙ h ∙ ap (filled g p) (sym (named-other frame g p s e))
 
   -- all of them fill the plane
@@ -123,17 +141,9 @@ module _ (frame : Bytes) (g : Geometry) (lengths : Lengths) (ok : Passed frame g
           filled-start g (ok .sound) (planeIndex frame g s) (placeInPlane frame g s) (place-below s l),
         )
 
-    -- row r of place k is row k times the slice height + r of the plane
+    -- "Place k covers rows from k times the plane's slice height": the slice's row r is the plane's row firstRow + r
     pub place-at : getD (wirePlane frame g lengths (planeIndex frame g s)) ((firstRow g (planeIndex frame g s) (placeInPlane frame g s) + r) * planeWidth g (planeIndex frame g s) + x) 0
         ≡ getD (sliceSamples frame g lengths s) (r * planeWidth g (planeIndex frame g s) + x) 0
-    unfolding frm.wirePlane
     place-at =
-        let z : suc s + (sliceCount g - suc s) ≡ sliceCount g = omega arith in
-        let i : ℕ = r * planeWidth g (planeIndex frame g s) + x in
-        let e : length (planeUpTo frame g lengths (planeIndex frame g s) (suc s)) ≡ length (planeUpTo frame g lengths (planeIndex frame g s) s) + length (sliceSamples frame g lengths s) =
-        ap length (plane-here frame g lengths s) ∙ length-append (planeUpTo frame g lengths (planeIndex frame g s) s) (sliceSamples frame g lengths s) in
         ap (λ (n : ℕ). getD (wirePlane frame g lengths (planeIndex frame g s)) n 0) begins
-        ∙ ap (λ (n : ℕ). getD (planeUpTo frame g lengths (planeIndex frame g s) n) (length (planeUpTo frame g lengths (planeIndex frame g s) s) + i) 0) (sym z)
-        ∙ stays frame g lengths (planeIndex frame g s) (suc s) (sliceCount g - suc s) (length (planeUpTo frame g lengths (planeIndex frame g s) s) + i) (omega (arith, e, own-in))
-        ∙ ap (λ (q : List ℕ). getD q (length (planeUpTo frame g lengths (planeIndex frame g s) s) + i) 0) (plane-here frame g lengths s)
-        ∙ getD-append-add (planeUpTo frame g lengths (planeIndex frame g s) s) (sliceSamples frame g lengths s) i 0
+        ∙ behind frame g lengths s (r * planeWidth g (planeIndex frame g s) + x) l own-in

@@ -1,9 +1,9 @@
 -- Document 01's picture sample by sample, from scope's definition of it as planes one after another ("Planes lie one after another with no
 -- gaps."): how many samples, how large, and where each slice's stand. Assumes nothing.
-use mathlib.Core.Path.{_≡_, refl, sym, ap, _∙_, subst}
-use mathlib.Core.Bool.{Bool, true, false, cond, _&&_, _||_}
-use mathlib.Core.List.{List, [], _++_}
-use Prim.Native.Nat.{ℕ, zero, suc, _+_, _-_, _*_, _%_, _^_, _≤_, _<_}
+use mathlib.Core.Path.{_≡_, refl, sym, ap, _∙_}
+use mathlib.Core.Bool.{true, _&&_, _||_}
+use mathlib.Core.List.{_++_}
+use Prim.Native.Nat.{ℕ, zero, suc, _+_, _*_, _^_, _<_}
 use native.Mathlib.Decide.{ℕ-discrete}
 use native.Mathlib.Nat.{suc-mul, mul-comm, mul-le-mul-right}
 use native.Mathlib.Omega.{arith}
@@ -14,20 +14,19 @@ use lib.Seq.{getD-append-add}
 use Rattle.scope.specs.Base as base
 use Rattle.scope.specs.Base.{Bytes, Lengths, Samples, sumBelow}
 use Rattle.scope.specs.Geometry as geo
-use Rattle.scope.specs.Geometry.{correlated, planeCount, slicesPerPlane, sliceCount, planeWidth, planeHeight, firstRow, rowsAt, planeSamples, allSamples, swapped, orderOf, rowStart}
+use Rattle.scope.specs.Geometry.{correlated, planeCount, sliceCount, planeWidth, planeHeight, firstRow, rowsAt, planeSamples, allSamples, swapped, orderOf, rowStart}
 use Rattle.scope.specs.Layout.{planeIndex, placeInPlane}
 use Rattle.scope.specs.Frame as frm
-use Rattle.scope.specs.Frame.{answerOf, sliceSamples, wirePlane, colourPlane, bufferPlane, planesUpTo, pictureOf}
-use Rattle.scope.specs.declared.Entry.{Entry}
+use Rattle.scope.specs.Frame.{wirePlane, colourPlane, bufferPlane, planesUpTo, pictureOf}
 use Rattle.scope.specs.declared.Geometry.{Geometry}
-use Rattle.scope.specs.declared.Answer.the-variants.{Done}
 use Rattle.lists.proofs.Sums.{sum-next}
+use Rattle.lists.proofs.Tests.{and-both}
 use Rattle.geometry.proofs.Places.{order, place-in, sizes-alike, correlated-full, correlated-three}
-use Rattle.places.proofs.Passed.{Passed, passed}
+use Rattle.places.proofs.Passed.{Passed}
 use Rattle.places.proofs.Samples.{Below, below-none, below-append}
 use Rattle.places.proofs.Planes.{wire-below, wire-long, plane-below, place-below, place-at}
 use Rattle.places.specs.Picture.{sampleAt, AllStand}
-use Rattle.places.proofs.Colours.{colour-at, colour-long, colour-below}
+use Rattle.places.proofs.Colours.{sum-same, colour-at, colour-long, colour-below}
 
 -- ---- planes one after another
 
@@ -53,6 +52,7 @@ planes-at f size (suc n) h b i l k = go (ℕ-discrete b n) (planes-at f size n (
         List·getD-append (planesUpTo f n) (f n) 0 (sumBelow b size + i) (omega (arith, long, e, sum-next size b n (omega (arith, e))))
         ∙ more (omega (arith, e)) k
 
+-- what bounds each bounds them all
 below-planes : (m : ℕ) (f : ℕ → Samples) (n : ℕ) → 0 < m → ((b : ℕ) → Below m (f b)) → Below m (planesUpTo f n)
 unfolding frm.planesUpTo
 below-planes m f zero h k = below-none m h
@@ -67,7 +67,7 @@ picture-below frame g lengths i l =
     below-planes (2 ^ g .depth) (bufferPlane (correlated (g .family)) (g .depth) (wirePlane frame g lengths)) (planeCount g) (pow-pos (g .depth))
     (λ b. colour-below (correlated (g .family)) (g .depth) (wirePlane frame g lengths) (swapped (correlated (g .family)) b) (wire-below frame g lengths (swapped (correlated (g .family)) b))) i
 
--- the planes of Rgb and Rgba have one width and one height
+-- the planes of Rgb and Rgba have one width, and one height
 module _ (g : Geometry) (e : correlated (g .family) ≡ true) (p q : ℕ) where
   pub widths-alike : planeWidth g p ≡ planeWidth g q
   unfolding geo.planeWidth geo.small
@@ -77,21 +77,18 @@ module _ (g : Geometry) (e : correlated (g .family) ≡ true) (p q : ℕ) where
   unfolding geo.planeHeight geo.small
   heights-alike = rw (correlated-full (g .family) e)
 
--- a sum by the same terms; what is added matters only where something is
-shown-same : (rgb t : Bool) (m a b c d : ℕ) → a ≡ b → (rgb ≡ true → c ≡ d) → cond (rgb && t) ((a + c) % m) a ≡ cond (rgb && t) ((b + d) % m) b
-shown-same false t m a b c d e h = e
-shown-same true t m a b c d e h = rw (e, h refl)
-
 module _ (frame : Bytes) (g : Geometry) (lengths : Lengths) (ok : Passed frame g lengths) where
   -- the planes of Rgb and Rgba are as large as G
   green-long : correlated (g .family) ≡ true → (p : ℕ) → length (wirePlane frame g lengths 1) ≡ planeSamples g p
   green-long e p = wire-long frame g lengths ok 1 (omega (arith, correlated-three (g .family) e)) ∙ sizes-alike g e 1 p
 
+  -- so every plane is as long coloured as it was stored
   plane-long : (p : ℕ) → p < planeCount g → length (colourPlane (correlated (g .family)) (g .depth) (wirePlane frame g lengths) p) ≡ planeSamples g p
   plane-long p l =
       colour-long (correlated (g .family)) (g .depth) (wirePlane frame g lengths) p (λ e. wire-long frame g lengths ok p l ∙ sym (green-long e p))
       ∙ wire-long frame g lengths ok p l
 
+  -- and the buffer's plane b as long as the wire's, which is another of the same size or itself
   buffer-long : (b : ℕ) → b < planeCount g → length (bufferPlane (correlated (g .family)) (g .depth) (wirePlane frame g lengths) b) ≡ planeSamples g b
   buffer-long b l = plane-long (orderOf g b) (order g .among b l) ∙ order g .alike b l
 
@@ -105,7 +102,7 @@ module _ (frame : Bytes) (g : Geometry) (lengths : Lengths) (ok : Passed frame g
   unfolding geo.planeSamples
   at-in p r x hr hx = omega (arith, mul-comm (planeWidth g p) (planeHeight g p), mul-le-mul-right (planeWidth g p) hr, suc-mul r (planeWidth g p))
 
-  -- row r of the wire's plane p stands at rowStart
+  -- "Planes lie one after another with no gaps.": row r of the wire's plane p stands at rowStart
   pub picture-at : (p r x : ℕ) → p < planeCount g → r < planeHeight g p → x < planeWidth g p
       → getD (pictureOf frame g lengths) (rowStart g p r + x) 0 ≡ getD (colourPlane (correlated (g .family)) (g .depth) (wirePlane frame g lengths) p) (r * planeWidth g p + x) 0
   unfolding frm.pictureOf geo.rowStart geo.planeStart
@@ -134,7 +131,7 @@ module _ (frame : Bytes) (g : Geometry) (lengths : Lengths) (ok : Passed frame g
       ap (λ (n : ℕ). getD (wirePlane frame g lengths 1) (r * n + x) 0) w
       ∙ sym (picture-at 1 r x (omega (arith, correlated-three (g .family) e)) (omega (arith, h)) (omega (arith, w)) ∙ rw e)
 
-  -- every slice's samples stand in the picture
+  -- every slice's samples stand in the picture: where the row stands, what is added to it, and what was stored there
   pub picture-rows : AllStand frame g lengths (pictureOf frame g lengths)
   picture-rows s r x l hr hx =
       let p : ℕ = planeIndex frame g s in
@@ -143,4 +140,5 @@ module _ (frame : Bytes) (g : Geometry) (lengths : Lengths) (ok : Passed frame g
       picture-at p R x (plane-below frame g lengths ok s l) (row-in s l r hr) hx
       ∙ colour-at (correlated (g .family)) (g .depth) (wirePlane frame g lengths) p (R * planeWidth g p + x)
       (omega (arith, i, wire-long frame g lengths ok p (plane-below frame g lengths ok s l))) (λ e. omega (arith, i, green-long e p))
-      ∙ shown-same (correlated (g .family)) (eqb p 0 || eqb p 2) (2 ^ g .depth) _ _ _ _ (place-at frame g lengths ok s l r x hr hx) (λ e. green-at e p R x (row-in s l r hr) hx)
+      ∙ sum-same (correlated (g .family) && (eqb p 0 || eqb p 2)) (2 ^ g .depth) _ _ _ _ (place-at frame g lengths ok s l r x hr hx)
+      (λ t. green-at (and-both (correlated (g .family)) (eqb p 0 || eqb p 2) t .0) p R x (row-in s l r hr) hx)

@@ -3,7 +3,7 @@
 use mathlib.Core.Path.{_≡_, refl, sym, ap, _∙_}
 use mathlib.Core.Bool.{Bool, true, false, cond}
 use mathlib.Core.List.{List, [], _++_}
-use Prim.Native.Nat.{ℕ, zero, suc, _+_, _-_, _*_, _^_, _≤_, _<_}
+use Prim.Native.Nat.{ℕ, zero, suc, _+_, _-_, _^_, _≤_, _<_}
 use native.Mathlib.Decide.{decLe}
 use native.Mathlib.Nat.{zero-add, mod-lt}
 use native.Mathlib.Omega.{arith}
@@ -23,7 +23,6 @@ use Rattle.scope.specs.Frame as frm
 use Rattle.scope.specs.Frame.{sliceLengths, residuesOf, sliceSamples}
 use Rattle.scope.specs.declared.Geometry.{Geometry}
 use Rattle.memory.proofs.InPlace.{grown-length, grown-at}
-use Rattle.bits.specs.Raw.{RawIn}
 use Rattle.bits.proofs.Raw.{raw-first, raw-length}
 use Rattle.codes.proofs.Chains.{chain-length}
 use Rattle.geometry.proofs.Places.{width-fits, slice-height-fits}
@@ -47,6 +46,7 @@ either-long true raw coded n h k e = h refl
 either-long false raw coded n h k e = k (symbolsOf coded) (symbols-are coded e)
 
 module _ (frame : Bytes) (g : Geometry) (lengths : Lengths) (ok : Passed frame g lengths) (s : ℕ) (l : s < sliceCount g) where
+  -- the samples of a slice are no more than the largest plane's
   few : samplesIn frame g s ≤ 268435456
   unfolding lay.samplesIn geo.rowsAt
   few =
@@ -60,6 +60,7 @@ module _ (frame : Bytes) (g : Geometry) (lengths : Lengths) (ok : Passed frame g
       length-take-le (sliceEnd frame g s - (sliceStart frame g s + 2)) (drop (sliceStart frame g s + 2) frame)
       (rw length-drop (omega (arith, prefix-in frame g lengths s (ok .checked s l), slice-in frame g lengths s (ok .checked s l))))
 
+  -- a raw slice has a residue for each sample: 12 saw to its bytes
   raw-long : isRaw frame g s ≡ true → length (rawSamples (g .depth) (payloadOf frame g s) (samplesIn frame g s)) ≡ samplesIn frame g s
   raw-long e =
       ap length (sym (raw-first (g .depth) (payloadOf frame g s) (samplesIn frame g s)))
@@ -68,7 +69,7 @@ module _ (frame : Bytes) (g : Geometry) (lengths : Lengths) (ok : Passed frame g
         most = omega (arith, few);
       })
 
-  -- as many residues as samples
+  -- so has any: 14 saw to a coded slice's words
   residues-long : length (symbolsOf (residuesOf frame g lengths s)) ≡ samplesIn frame g s
   unfolding frm.residuesOf
   residues-long =
@@ -87,6 +88,7 @@ module _ (frame : Bytes) (g : Geometry) (lengths : Lengths) (ok : Passed frame g
 abbrev pub Below : (m : ℕ) (xs : List ℕ) → Type 0
 Below m xs = (i : ℕ) → getD xs i 0 < m
 
+-- the empty list
 pub below-none : (m : ℕ) → 0 < m → Below m []
 below-none m h zero = h
 below-none m h (suc i) = h

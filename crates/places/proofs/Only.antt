@@ -1,5 +1,5 @@
--- Document 01, "Success .. defines every sample": of two buffers of the picture's size in which every slice's samples stand where they belong
--- (specs/Picture.antt) neither has a sample that the other has not. Assumes nothing.
+-- Document 01, "Success .. defines every sample": two buffers of the picture's size in which every slice's samples stand where they belong
+-- (specs/Picture.antt) are equal. Assumes nothing.
 use mathlib.Core.Path.{_≡_, refl, sym, ap, _∙_, subst}
 use mathlib.Core.Bool.{Bool, true, false, _&&_, _||_}
 use Prim.Native.Nat.{ℕ, zero, suc, _+_, _-_, _*_, _/_, _≤_, _<_}

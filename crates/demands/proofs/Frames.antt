@@ -15,7 +15,10 @@ use Rattle.scope.specs.declared.Answer.{Answer}
 use Rattle.scope.specs.declared.Answer.the-variants.{Done}
 use Rattle.scope.proofs.Table.{first-cons}
 use Rattle.refusals.specs.Rows.{Every}
+use Rattle.refusals.proofs.InOrder.{then-passed}
 use Rattle.refusals.proofs.Rows.{every-answer, every-one}
+use Rattle.places.specs.Picture.{Pictured}
+use Rattle.places.proofs.Picture.{pictured}
 use Rattle.magicyuv.specs.declared.Reply.{Reply}
 use Rattle.magicyuv.specs.Boundary.{Numbers, numbersFit, geometryOf, hostAnswer, Hosted}
 use Rattle.demands.specs.Demand.{FrameCall, tableFor, pictureFor, replyTo, Demand1, LentAlike, Forgotten, Demand2, hosted, FrameEntry, decode8, decode16, magicyuv-decode8, magicyuv-decode16, FrameAllowed, frameCall}
@@ -141,6 +144,15 @@ module _ (c : FrameCall) (st : Stated c) where
         st .workspace ∙ left-cleared 4 (c .workspace₀) (zeros (c .workspace₀)) (zeros (c .workspace₀)) said a b,
       )
 
+  -- no row of the table itself applies either
+  answer-done : c .reply .number ≡ 0 → answerOf (c .which) (c .frame) (c .geometry) (c .lengths) (length (c .planes₀)) (length (c .workspace₀)) ≡ Done
+  answer-done z =
+      sym (then-passed (refuseIf (not (c .named)) 1 Nothing) _
+      (sym (success-is z) ∙ whole (c .which) (c .frame) (c .geometry) (c .lengths) (c .planes₀) (c .workspace₀) (c .named)))
+
+  picture : c .reply .number ≡ 0 → Pictured (c .frame) (c .geometry) (c .lengths)
+  picture z = pictured (c .which) (c .frame) (c .geometry) (c .lengths) (length (c .planes₀)) (length (c .workspace₀)) (answer-done z)
+
   pub demand-1-of : Demand1 c
   demand-1-of = record { exactly = by-table (tableFor c) (c .reply) (st .reply) numbers; success = success; found = kept; cleared = wiped }
 
@@ -149,6 +161,10 @@ module _ (c : FrameCall) (st : Stated c) where
     reply = st .reply;
     planes = λ z. success z .0;
     handed = λ e. let z : c .reply .number ≡ 0 = number-is ∙ ap numberOf e in (z, success z .0);
+    size = λ z. ap length (success z .0) ∙ picture z .size;
+    below = λ z i l. rw (success z .0) (picture z .below i l);
+    rows = λ z. rw (success z .0) (picture z .rows);
+    pictured = picture;
   }
 
 -- ---- two calls

@@ -159,9 +159,10 @@ module _ (c d : ReadCall) (sc : ReadStated c) (sd : ReadStated d) (h : ReadingsA
     success = λ z.
         let y : d .reply .number ≡ 0 = sym same-number ∙ z in
         let a = hands c sc z in
-        let b = hands d sd y in
-        (one-chain (c .lengths) (c .payload) 0 (c .samples₁) (d .samples₁) (a .long ∙ h .samples ∙ sym (b .long)) (a .spelt) (rw (h .lengths, h .payload) (b .spelt)),
-        clears c sc z ∙ same-zeros (c .workspace₀) (d .workspace₀) (h .workspace) ∙ sym (clears d sd y));
+        let b = hands d sd y in (
+          one-chain (c .lengths) (c .payload) 0 (c .samples₁) (d .samples₁) (a .long ∙ h .samples ∙ sym (b .long)) (a .spelt) (rw (h .lengths, h .payload) (b .spelt)),
+          clears c sc z ∙ same-zeros (c .workspace₀) (d .workspace₀) (h .workspace) ∙ sym (clears d sd y),
+        );
     cleared = λ l.
         let a = wiped c sc l in
         let b = wiped d sd (rw same-number at l) in

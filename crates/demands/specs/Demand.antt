@@ -8,13 +8,14 @@ use mathlib.Core.Logic.{_↔_}
 use Prim.Native.Nat.{ℕ, _-_, _/_, _^_, _≤_, _<_}
 use mathlib.Core.Bool.{Bool, true, not}
 use mathlib.Core.List.{List, _∷_}
-use lib.ListN.{length, take, drop}
+use lib.ListN.{length, take, drop, getD}
 use contract.Lifetimes.{Lfts}
 use borrow.Fn.World.{ArgsD, ResD}
 use denote.Triple.Clauses.{AtExit}
 use denote.Ref.{now}
 use Rattle.scope.specs.Base.{Bytes, Lengths, Samples, Words, zeros}
 use Rattle.scope.specs.Refusals.{numberOf, placeOf, kindNumber, placeNumber, Row, row, firstOf, NoneApplies, FirstApplies}
+use Rattle.scope.specs.Geometry.{allSamples}
 use Rattle.scope.specs.Words.{shares, need, longest, lengthOf, wordOf, Begins, Spells}
 use Rattle.scope.specs.Frame.{table, pictureOf}
 use Rattle.scope.specs.Alone.{buildRows, readRowsAlone}
@@ -27,6 +28,7 @@ use Rattle.scope.specs.declared.Found.{Found}
 use Rattle.scope.specs.declared.Found.the-variants.{Word, NoWord}
 use Rattle.scope.specs.declared.Answer.{Answer}
 use Rattle.scope.specs.declared.Answer.the-variants.{Done, Refused}
+use Rattle.places.specs.Picture.{AllStand, Pictured}
 use Rattle.magicyuv.specs.declared.Reply.{Reply}
 use Rattle.magicyuv.specs.Boundary.{Numbers, numbers, numbersFit, geometryOf, Says}
 use Rattle.decode8.proofs.decode8 as entry8
@@ -160,6 +162,13 @@ pub record Demand2 (c : FrameCall) : Type 0 where
   pub planes : c .reply .number ≡ 0 → c .planes₁ ≡ pictureFor c
   -- and they are handed out wherever document 01 refuses nothing
   pub handed : firstOf (tableFor c) ≡ Done → (c .reply .number ≡ 0) × (c .planes₁ ≡ pictureFor c)
+  -- "Success .. defines every sample.": there are as many as all planes have, each below 2^depth;
+  pub size : c .reply .number ≡ 0 → length (c .planes₁) ≡ allSamples (c .geometry)
+  pub below : c .reply .number ≡ 0 → (i : ℕ) → i < allSamples (c .geometry) → getD (c .planes₁) i 0 < 2 ^ c .geometry .depth
+  -- by row and column, sample (r, x) of slice s stands in its plane's row k times the plane's slice height + r, where k is its place;
+  pub rows : c .reply .number ≡ 0 → AllStand (c .frame) (c .geometry) (c .lengths) (c .planes₁)
+  -- every row of every plane is in just one slice's rows, and no other buffer has them so (crates/places/specs/Picture.antt)
+  pub pictured : c .reply .number ≡ 0 → Pictured (c .frame) (c .geometry) (c .lengths)
 
 -- ---- demand 3
 

@@ -1,0 +1,124 @@
+-- The wrong decoders of document 01, "What every public statement settles", each as what it does, whatever else it does: so a theorem about one
+-- is about every decoder that does it. What is made up may even go by the geometry, so long as it does not come from where it should. Below each
+-- stands the plainest decoder that does it. Assumes nothing.
+use mathlib.Core.Path.{_≡_}
+use Prim.Native.Nat.{ℕ, _<_, _≤_}
+use mathlib.Core.Bool.{cond, not, _||_}
+use lib.ListN.{length}
+use lib.Dec.{eqb, ltb}
+use Rattle.scope.specs.Base.{Samples, Words, Lengths, zeros}
+use Rattle.scope.specs.Refusals.{numberOf, placeOf, kindNumber, placeNumber, refuseIf, _andThen_, leftByFrame}
+use Rattle.scope.specs.Geometry.{lengthsOf}
+use Rattle.scope.specs.Words.{shares}
+use Rattle.scope.specs.Frame.{pictureOf}
+use Rattle.scope.specs.declared.Geometry.{Geometry}
+use Rattle.scope.specs.declared.Place.{Place}
+use Rattle.scope.specs.declared.Place.the-variants.{Slice, Plane, Nothing}
+use Rattle.scope.specs.declared.Answer.{Answer}
+use Rattle.scope.specs.declared.Answer.the-variants.{Done, Refused}
+use Rattle.wrong.specs.Calls.{Lent, Outcome, Decoder, right, Table, Builder, rightBuilder}
+
+-- a decoder gives planes for what is lent
+abbrev pub Accepts : (D : Decoder) (l : Lent) → Type 0
+Accepts D l = numberOf (D l .answer) ≡ 0
+
+-- the kind of a refusal's place (0 nothing, 1 a slice, 2 a plane), and which one
+abbrev pub kindOf : (answer : Answer) → ℕ
+kindOf a = kindNumber (placeOf a)
+
+abbrev pub whichOf : (answer : Answer) → ℕ
+whichOf a = placeNumber (placeOf a)
+
+-- ---- "a decoder that refuses always"
+
+abbrev pub RefusesAlways : (D : Decoder) → Type 0
+RefusesAlways D = (l : Lent) → 0 < numberOf (D l .answer)
+
+abbrev pub refuser : Decoder
+refuser l = record { answer = Refused 5 Nothing; planes = zeros (l .planes); workspace = zeros (l .workspace) }
+
+-- ---- "or gives one fixed picture"
+
+-- one for each geometry, whatever the frame
+abbrev pub FixedPicture : (picture : Geometry → Samples) (D : Decoder) → Type 0
+FixedPicture picture D = (l : Lent) → Accepts D l → D l .planes ≡ picture (l .geometry)
+
+abbrev pub painter : (picture : Geometry → Samples) → Decoder
+painter picture l = record { answer = Done; planes = picture (l .geometry); workspace = zeros (l .workspace) }
+
+-- ---- "one that writes nothing and trusts old memory"
+
+abbrev pub WritesNothing : (D : Decoder) → Type 0
+WritesNothing D = (l : Lent) → D l .planes ≡ l .planes
+
+abbrev pub idler : Decoder
+idler l = record { answer = right l .answer; planes = l .planes; workspace = l .workspace }
+
+-- ---- "or zero-fills"
+
+abbrev pub ZeroFills : (D : Decoder) → Type 0
+ZeroFills D = (l : Lent) → Accepts D l → D l .planes ≡ zeros (l .planes)
+
+abbrev pub zeroFiller : Decoder
+zeroFiller l = record { answer = right l .answer; planes = zeros (l .planes); workspace = right l .workspace }
+
+-- ---- "one that makes up a refusal's slice, plane or workspace need"
+
+abbrev pub MakesUpSlice : (slice : Geometry → ℕ) (D : Decoder) → Type 0
+MakesUpSlice slice D = (l : Lent) → kindOf (D l .answer) ≡ 1 → whichOf (D l .answer) ≡ slice (l .geometry)
+
+abbrev pub MakesUpPlane : (plane : Geometry → ℕ) (D : Decoder) → Type 0
+MakesUpPlane plane D = (l : Lent) → kindOf (D l .answer) ≡ 2 → whichOf (D l .answer) ≡ plane (l .geometry)
+
+-- slice s, or plane p, in place of the one that an answer names
+abbrev pub elsewhere : (s p : ℕ) (answer : Answer) → Answer
+elsewhere s p Done = Done
+elsewhere s p (Refused n Nothing) = Refused n Nothing
+elsewhere s p (Refused n (Slice k)) = Refused n (Slice s)
+elsewhere s p (Refused n (Plane k)) = Refused n (Plane p)
+
+abbrev pub guesser : (slice plane : Geometry → ℕ) → Decoder
+guesser slice plane l =
+    record {
+      answer = elsewhere (slice (l .geometry)) (plane (l .geometry)) (right l .answer);
+      planes = right l .planes;
+      workspace = right l .workspace;
+    }
+
+-- no smaller workspace is enough for it, and no larger one too small
+pub record MakesUpNeed (need : Geometry → ℕ) (D : Decoder) : Type 0 where
+  pub enough : (l : Lent) → Accepts D l → need (l .geometry) ≤ length (l .workspace)
+  pub short : (l : Lent) → numberOf (D l .answer) ≡ 11 → length (l .workspace) < need (l .geometry)
+
+abbrev pub asker : (need : Geometry → ℕ) → Decoder
+asker need l =
+    let a : Answer = refuseIf (ltb (length (l .workspace)) (need (l .geometry))) 11 Nothing in
+    record {
+      answer = a;
+      planes = leftByFrame a (l .planes) (zeros (l .planes)) (pictureOf (l .frame) (l .geometry) (l .lengths));
+      workspace = zeros (l .workspace);
+    }
+
+-- the same of a table by itself, by the count of its lengths
+pub record MakesUpNeedAlone (need : ℕ → ℕ) (B : Builder) : Type 0 where
+  pub enough : (ls : Lengths) (workspace : Words) → numberOf (B ls workspace .answer) ≡ 0 → need (length ls) ≤ length workspace
+  pub short : (ls : Lengths) (workspace : Words) → numberOf (B ls workspace .answer) ≡ 11 → length workspace < need (length ls)
+
+abbrev pub askerAlone : (need : ℕ → ℕ) → Builder
+askerAlone need ls workspace =
+    record { answer = refuseIf (ltb (length workspace) (need (length ls))) 11 Nothing; workspace = rightBuilder ls workspace .workspace }
+
+-- ---- "a table that accepts only complete codes"
+
+-- the shares of all that is accepted are exactly one
+abbrev pub CompleteOnly : (B : Builder) → Type 0
+CompleteOnly B = (ls : Lengths) (workspace : Words) → numberOf (B ls workspace .answer) ≡ 0 → shares ls ≡ 262144
+
+abbrev pub completist : Builder
+completist ls workspace =
+    let a : Answer = refuseIf (not (eqb (shares ls) 262144)) 10 (Plane 0) in
+    record { answer = a; workspace = workspace }
+
+-- the same of a frame whose table of plane 0 is such a one
+abbrev pub CompleteOnlyFrames : (D : Decoder) → Type 0
+CompleteOnlyFrames D = (l : Lent) → Accepts D l → shares (lengthsOf (l .geometry) (l .lengths) 0) ≡ 262144

@@ -1,0 +1,136 @@
+-- What a decoder is, whatever it does inside: an outcome for each thing that may be lent to it; and what it is for one to meet the statement
+-- of the frame entries (`Decoded`), or of the exported ones (`Hosted`). The same of a table and a reading by itself. Document 01, "What every
+-- public statement settles". Assumes nothing.
+use mathlib.Core.Bool.{Bool, true, false}
+use Prim.Native.Nat.{ℕ}
+use lib.ListN.{length}
+use Rattle.scope.specs.Base.{Bytes, Lengths, Samples, Words, one}
+use Rattle.scope.specs.Refusals.{numberOf, placeOf, kindNumber, placeNumber}
+use Rattle.scope.specs.Frame.{answerOf, planesAfter, workspaceAfter, Decoded}
+use Rattle.scope.specs.Alone.{buildAnswer, workspaceBuilt, BuiltAlone, readAnswer, samplesRead, workspaceRead, ReadAlone}
+use Rattle.scope.specs.declared.Entry.{Entry}
+use Rattle.scope.specs.declared.Family.{Family}
+use Rattle.scope.specs.declared.Family.the-variants.{Gray, Rgb, Yuv, Rgba, Yuva}
+use Rattle.scope.specs.declared.Geometry.{Geometry}
+use Rattle.scope.specs.declared.Answer.{Answer}
+use Rattle.magicyuv.specs.Boundary.{Numbers, numbers, Hosted, BuiltFor, ReadFor}
+use Rattle.magicyuv.specs.declared.Reply.{Reply}
+
+-- ---- a frame
+
+-- "The caller lends a frame, a geometry record, code lengths, a plane buffer and a workspace of 32-bit words."; `which` is the entry
+pub record Lent : Type 0 where
+  pub which : Entry
+  pub frame : Bytes
+  pub geometry : Geometry
+  pub lengths : Lengths
+  pub planes : Samples
+  pub workspace : Words
+
+-- what is answered, and what planes and workspace hold then
+pub record Outcome : Type 0 where
+  pub answer : Answer
+  pub planes : Samples
+  pub workspace : Words
+
+abbrev pub Decoder : Type 0
+Decoder = (l : Lent) → Outcome
+
+-- the decoder of document 01, so that there is one that meets the statements
+abbrev pub right : Decoder
+right l =
+    record {
+      answer = answerOf (l .which) (l .frame) (l .geometry) (l .lengths) (length (l .planes)) (length (l .workspace));
+      planes = planesAfter (l .which) (l .frame) (l .geometry) (l .lengths) (l .planes) (length (l .workspace));
+      workspace = workspaceAfter (l .which) (l .frame) (l .geometry) (l .lengths) (length (l .planes)) (l .workspace);
+    }
+
+-- a decoder meets the statement of the frame entries, whatever is lent
+abbrev pub Meets : (D : Decoder) → Type 0
+Meets D =
+    (l : Lent)
+    → Decoded (l .which) (l .frame) (l .geometry) (l .lengths) (l .planes) (l .workspace) (D l .answer) (D l .planes) (D l .workspace)
+
+-- ---- the same at the host's boundary
+
+-- the number of a family
+abbrev pub familyNumber : (family : Family) → ℕ
+familyNumber Gray = 0
+familyNumber Rgb = 1
+familyNumber Yuv = 2
+familyNumber Rgba = 3
+familyNumber Yuva = 4
+
+-- the eight numbers that name a geometry. Numbers that name none never reach a decoder: they are refusal 1 at the boundary.
+abbrev pub numbersOf : (g : Geometry) → Numbers
+numbersOf g =
+    numbers (g .width) (g .height) (g .«slice_height») (familyNumber (g .family)) (g .sx) (g .sy) (g .depth) (one (g .interlaced))
+
+-- an answer as the three numbers that cross
+abbrev pub replyOf : (answer : Answer) → Reply
+replyOf a = record { number = numberOf a; kind = kindNumber (placeOf a); place = placeNumber (placeOf a) }
+
+-- a decoder meets the statement of the exported frame entries
+abbrev pub MeetsHosted : (D : Decoder) → Type 0
+MeetsHosted D =
+    (l : Lent)
+    → Hosted (l .which) (l .frame) (numbersOf (l .geometry)) (l .lengths) (l .planes) (l .workspace) (replyOf (D l .answer)) (D l .planes) (D l .workspace)
+
+-- a decoder is out: it meets neither
+pub record Out (D : Decoder) : Type 0 where
+  pub entry : Meets D → ⊥
+  pub exported : MeetsHosted D → ⊥
+
+-- ---- a table by itself
+
+pub record Table : Type 0 where
+  pub answer : Answer
+  pub workspace : Words
+
+abbrev pub Builder : Type 0
+Builder = (ls : Lengths) (workspace : Words) → Table
+
+abbrev pub rightBuilder : Builder
+rightBuilder ls workspace = record { answer = buildAnswer ls (length workspace); workspace = workspaceBuilt ls workspace }
+
+abbrev pub Builds : (B : Builder) → Type 0
+Builds B = (ls : Lengths) (workspace : Words) → BuiltAlone ls workspace (B ls workspace .answer) (B ls workspace .workspace)
+
+abbrev pub BuildsHosted : (B : Builder) → Type 0
+BuildsHosted B = (ls : Lengths) (workspace : Words) → BuiltFor ls workspace (replyOf (B ls workspace .answer)) (B ls workspace .workspace)
+
+pub record OutBuilder (B : Builder) : Type 0 where
+  pub alone : Builds B → ⊥
+  pub exported : BuildsHosted B → ⊥
+
+-- ---- a reading by itself
+
+pub record Reading : Type 0 where
+  pub answer : Answer
+  pub workspace : Words
+  pub samples : Samples
+
+abbrev pub Reader : Type 0
+Reader = (ls : Lengths) (payload : Bytes) (workspace : Words) (samples : Samples) → Reading
+
+abbrev pub rightReader : Reader
+rightReader ls payload workspace samples =
+    record {
+      answer = readAnswer ls payload (length samples) (length workspace);
+      workspace = workspaceRead ls payload (length samples) workspace;
+      samples = samplesRead ls payload samples (length workspace);
+    }
+
+abbrev pub Reads : (R : Reader) → Type 0
+Reads R =
+    (ls : Lengths) (payload : Bytes) (workspace : Words) (samples : Samples)
+    → ReadAlone ls payload workspace samples (R ls payload workspace samples .answer) (R ls payload workspace samples .workspace) (R ls payload workspace samples .samples)
+
+abbrev pub ReadsHosted : (R : Reader) → Type 0
+ReadsHosted R =
+    (ls : Lengths) (payload : Bytes) (workspace : Words) (samples : Samples)
+    → ReadFor ls payload workspace samples (replyOf (R ls payload workspace samples .answer)) (R ls payload workspace samples .workspace) (R ls payload workspace samples .samples)
+
+pub record OutReader (R : Reader) : Type 0 where
+  pub alone : Reads R → ⊥
+  pub exported : ReadsHosted R → ⊥

@@ -67,12 +67,13 @@ host-picture frame g lengths = ap (λ (x : Geometry). pictureOf frame x lengths)
 
 -- ---- a frame
 
--- the numbers of an answer's number and place, and the planes
+-- an answer's number and place, and what is left in the planes and in the workspace
 pub record Shown (l : Lent) (o : Outcome) : Type 0 where
   pub number : numberOf (o .answer) ≡ numberOf (right l .answer)
   pub kind : kindNumber (placeOf (o .answer)) ≡ kindNumber (placeOf (right l .answer))
   pub place : placeNumber (placeOf (o .answer)) ≡ placeNumber (placeOf (right l .answer))
   pub planes : o .planes ≡ right l .planes
+  pub workspace : o .workspace ≡ right l .workspace
 
 by-entry : (D : Decoder) → Meets D → (l : Lent) → Shown l (D l)
 by-entry D m l =
@@ -81,6 +82,7 @@ by-entry D m l =
       kind = ap (λ (a : Answer). kindNumber (placeOf a)) (m l .answer);
       place = ap (λ (a : Answer). placeNumber (placeOf a)) (m l .answer);
       planes = m l .planes;
+      workspace = m l .workspace;
     }
 
 hosted-planes : (l : Lent)
@@ -110,6 +112,7 @@ by-export D m l =
       kind = m l .answer .kind ∙ ap (λ (a : Answer). kindNumber (placeOf a)) (answered l);
       place = m l .answer .place ∙ ap (λ (a : Answer). placeNumber (placeOf a)) (answered l);
       planes = m l .planes ∙ hosted-planes l;
+      workspace = m l .workspace ∙ hosted-workspace l;
     }
 
 -- a decoder that contradicts what both show is out

@@ -13,14 +13,14 @@ use Rattle.scope.specs.Layout.{le32, entry, preambleEnd, countByte, planeIndex,
 use Rattle.scope.specs.Bits.{bitAt, window, packedFrom, rawSamples}
 use Rattle.scope.specs.Words.{longest, shorter, shortest, tooLong, share, shares, overfull, startDown, first, wordOf, isHead, headBelow, heads, needFrom, need, beginsWith, wordBelow, wordAt, _before_, onWord, chainBy, symbolsOf}
 use Rattle.scope.specs.Prediction.{gradient, clampMedian, t87Median, median, predictor, prediction, sample, samplesOf, plus}
-use Rattle.scope.specs.Frame.{needOfAll, fewestBytes, residuesOf, sliceSamples, planeUpTo, wirePlane, colourPlane, planesUpTo, pictureOf, table, answerOf, planesAfter}
+use Rattle.scope.specs.Frame.{needOfAll, fewestBytes, residuesOf, sliceSamples, planeUpTo, wirePlane, colourPlane, planesUpTo, pictureOf, table, answerOf, planesAfter, workspaceAfter}
 use Rattle.scope.specs.Alone.{buildAnswer, readAnswer, samplesRead}
 use Rattle.scope.specs.declared.Geometry.{Geometry}
 use Rattle.scope.specs.declared.Place.the-variants.{Slice, Plane}
 use Rattle.scope.specs.declared.Answer.the-variants.{Done, Refused}
 use Rattle.wrong.specs.Calls.{Lent, Outcome, Decoder, right, Out, Builder, rightBuilder, OutBuilder, Reader, OutReader}
 use Rattle.wrong.specs.Rules.{Rules, residuesBy, samplesBy, planeBy, wireBy, bufferBy, pictureBy, answerBy, decodesBy, readsBy, slice0, copiesSlice0, byMedian, t87Always, clampAlways, firstUp, wordUp, upBelow, upAt, shortestFirst, filled, filledAt, unfilledIs0, rowAbove, addsRowAbove, ignoresFields, bFirst, planeMajor, assumesPlaneMajor}
-use Rattle.wrong.specs.Behaviours.{Accepts, kindOf, whichOf, RefusesAlways, FixedPicture, WritesNothing, ZeroFills, MakesUpSlice, MakesUpPlane, MakesUpNeed, MakesUpNeedAlone, CompleteOnly, CompleteOnlyFrames}
+use Rattle.wrong.specs.Behaviours.{Accepts, kindOf, whichOf, RefusesAlways, FixedPicture, WritesNothing, LeavesWorkspace, LeavesRefused, ZeroFills, MakesUpSlice, MakesUpPlane, MakesUpNeed, AsksOther, MakesUpNeedAlone, AsksOtherAlone, CompleteOnly, CompleteOnlyFrames}
 use Rattle.wrong.specs.Frames.{dot, pair, colours, column, square, deepSquare}
 use Rattle.wrong.specs.Wrong.{AllRefused, RightAllowed}
 use Rattle.wrong.proofs.Shown.{Shown, out, right-entry, right-exported, out-builder, right-table, right-table-exported, ShownReading, out-reader, right-reading, right-reading-exported}
@@ -33,7 +33,7 @@ unfolding count sumBelow listFrom grown rowsOfEach leftBy
     bitAt window packedFrom rawSamples
     longest shorter shortest tooLong share shares overfull startDown first wordOf isHead headBelow heads needFrom need beginsWith wordBelow wordAt _before_ onWord chainBy symbolsOf
     gradient clampMedian t87Median median predictor prediction sample samplesOf plus
-    needOfAll fewestBytes residuesOf sliceSamples planeUpTo wirePlane colourPlane planesUpTo pictureOf table answerOf planesAfter
+    needOfAll fewestBytes residuesOf sliceSamples planeUpTo wirePlane colourPlane planesUpTo pictureOf table answerOf planesAfter workspaceAfter
     buildAnswer readAnswer samplesRead
     residuesBy samplesBy planeBy wireBy bufferBy pictureBy answerBy decodesBy readsBy
     slice0 byMedian firstUp wordUp upBelow upAt filled filledAt rowAbove planeMajor
@@ -94,6 +94,19 @@ writes-nothing D does =
     let z : _≡_ {A = ℕ} 9 7 = cc in
     omega (arith, z))
 
+-- so it was in the workspace, and 0 is due
+cleared-workspace : right (dotOf 7) .workspace ≡ 0 ∷ []
+unfolding open01
+cleared-workspace = refl
+
+leaves-workspace : (D : Decoder) → LeavesWorkspace D → Out D
+unfolding dot
+leaves-workspace D does =
+    out D (λ shown.
+    let e : 9 ∷ [] ≡ 0 ∷ [] = sym (does (dotOf 7)) ∙ shown (dotOf 7) .workspace ∙ cleared-workspace in
+    let z : _≡_ {A = ℕ} 9 0 = cc in
+    omega (arith, z))
+
 zero-fills : (D : Decoder) → ZeroFills D → Out D
 unfolding dot
 zero-fills D does =
@@ -112,6 +125,21 @@ at-slice-0 = refl
 at-slice-1 : right (pair 1 0) .answer ≡ Refused 15 (Slice 1)
 unfolding open01
 at-slice-1 = refl
+
+-- which leaves the planes zero
+cleared-planes : right (pair 0 1) .planes ≡ 0 ∷ 0 ∷ []
+unfolding open01
+cleared-planes = refl
+
+leaves-refused : (D : Decoder) → LeavesRefused D → Out D
+unfolding pair
+leaves-refused D does =
+    out D (λ shown.
+    let n : numberOf (D (pair 0 1) .answer) ≡ 15 = number-is D (pair 0 1) 15 shown (ap numberOf at-slice-0) in
+    let m : 0 < numberOf (D (pair 0 1) .answer) = omega (arith, n) in
+    let e : 9 ∷ 9 ∷ [] ≡ 0 ∷ 0 ∷ [] = sym (does (pair 0 1) m) ∙ shown (pair 0 1) .planes ∙ cleared-planes in
+    let z : _≡_ {A = ℕ} 9 0 = cc in
+    omega (arith, z))
 
 makes-up-slice : (slice : Geometry → ℕ) (D : Decoder) → MakesUpSlice slice D → Out D
 unfolding pair
@@ -146,14 +174,32 @@ one-is-short : numberOf (right (dot 1 7 (1 ∷ 1 ∷ []) 1) .answer) ≡ 11
 unfolding open01
 one-is-short = refl
 
-makes-up-need : (need : Geometry → ℕ) (D : Decoder) → MakesUpNeed need D → Out D
+makes-up-need : (asked : Geometry → ℕ) (D : Decoder) → MakesUpNeed asked D → Out D
 unfolding dot
-makes-up-need need D does =
+makes-up-need asked D does =
     out D (λ shown.
     let l : Lent = dot 1 7 (1 ∷ 1 ∷ []) 1 in
-    let a : need (l .geometry) ≤ 1 = does .enough (dotOf 7) (number-is D (dotOf 7) 0 shown (dot-accepted 7)) in
-    let b : 1 < need (l .geometry) = does .short l (number-is D l 11 shown one-is-short) in
+    let a : asked (l .geometry) ≤ 1 = does .enough (dotOf 7) (number-is D (dotOf 7) 0 shown (dot-accepted 7)) in
+    let b : 1 < asked (l .geometry) = does .short l (number-is D l 11 shown one-is-short) in
     omega (arith, a, b))
+
+-- and none is too little
+none-is-short : numberOf (right (dot 1 7 [] 0) .answer) ≡ 11
+unfolding open01
+none-is-short = refl
+
+dot-need : needOfAll (dotOf 7 .geometry) (dotOf 7 .lengths) ≡ 1
+unfolding open01
+dot-need = refl
+
+asks-other : (asked : Geometry → Lengths → ℕ) (D : Decoder) → AsksOther asked D → Out D
+unfolding dot
+asks-other asked D does =
+    out D (λ shown.
+    let l : Lent = dotOf 7 in
+    let a : asked (l .geometry) (l .lengths) ≤ 1 = does .asks .enough l (number-is D l 0 shown (dot-accepted 7)) in
+    let b : 0 < asked (l .geometry) (l .lengths) = does .asks .short (dot 1 7 [] 0) (number-is D (dot 1 7 [] 0) 11 shown none-is-short) in
+    does .other (l .geometry) (l .lengths) (omega (arith, a, b, dot-need)))
 
 wordless-builds : numberOf (rightBuilder (0 ∷ 0 ∷ []) (9 ∷ []) .answer) ≡ 0
 unfolding open01
@@ -163,12 +209,27 @@ two-words-need-two : numberOf (rightBuilder (1 ∷ 1 ∷ []) (9 ∷ []) .answer)
 unfolding open01
 two-words-need-two = refl
 
-makes-up-need-alone : (need : ℕ → ℕ) (B : Builder) → MakesUpNeedAlone need B → OutBuilder B
-makes-up-need-alone need B does =
+makes-up-need-alone : (asked : ℕ → ℕ) (B : Builder) → MakesUpNeedAlone asked B → OutBuilder B
+makes-up-need-alone asked B does =
     out-builder B (λ shown.
-    let a : need 2 ≤ 1 = does .enough (0 ∷ 0 ∷ []) (9 ∷ []) (shown (0 ∷ 0 ∷ []) (9 ∷ []) ∙ wordless-builds) in
-    let b : 1 < need 2 = does .short (1 ∷ 1 ∷ []) (9 ∷ []) (shown (1 ∷ 1 ∷ []) (9 ∷ []) ∙ two-words-need-two) in
+    let a : asked 2 ≤ 1 = does .enough (0 ∷ 0 ∷ []) (9 ∷ []) (shown (0 ∷ 0 ∷ []) (9 ∷ []) ∙ wordless-builds) in
+    let b : 1 < asked 2 = does .short (1 ∷ 1 ∷ []) (9 ∷ []) (shown (1 ∷ 1 ∷ []) (9 ∷ []) ∙ two-words-need-two) in
     omega (arith, a, b))
+
+wordless-needs-one : numberOf (rightBuilder (0 ∷ 0 ∷ []) [] .answer) ≡ 11
+unfolding open01
+wordless-needs-one = refl
+
+wordless-need : need (0 ∷ 0 ∷ []) ≡ 1
+unfolding open01
+wordless-need = refl
+
+asks-other-alone : (asked : Lengths → ℕ) (B : Builder) → AsksOtherAlone asked B → OutBuilder B
+asks-other-alone asked B does =
+    out-builder B (λ shown.
+    let a : asked (0 ∷ 0 ∷ []) ≤ 1 = does .asks .enough (0 ∷ 0 ∷ []) (9 ∷ []) (shown (0 ∷ 0 ∷ []) (9 ∷ []) ∙ wordless-builds) in
+    let b : 0 < asked (0 ∷ 0 ∷ []) = does .asks .short (0 ∷ 0 ∷ []) [] (shown (0 ∷ 0 ∷ []) [] ∙ wordless-needs-one) in
+    does .other (0 ∷ 0 ∷ []) (omega (arith, a, b, wordless-need)))
 
 -- ---- complete codes only: one word of one bit takes half the room, and is built and read
 
@@ -351,12 +412,16 @@ all-refused =
       refuses-always = refuses-always;
       fixed-picture = fixed-picture;
       writes-nothing = writes-nothing;
+      leaves-workspace = leaves-workspace;
+      leaves-refused = leaves-refused;
       copies-slice-0 = copies-slice-0;
       zero-fills = zero-fills;
       makes-up-slice = makes-up-slice;
       makes-up-plane = makes-up-plane;
       makes-up-need = makes-up-need;
+      asks-other = asks-other;
       makes-up-need-alone = makes-up-need-alone;
+      asks-other-alone = asks-other-alone;
       complete-only = complete-only;
       complete-only-frames = complete-only-frames;
       t87-at-8 = t87-at-8;

@@ -2,17 +2,16 @@
 -- is about every decoder that does it. What is made up may even go by the geometry, so long as it does not come from where it should. Below each
 -- stands the plainest decoder that does it. Assumes nothing.
 use mathlib.Core.Path.{_≡_}
-use Prim.Native.Nat.{ℕ, _<_, _≤_}
-use mathlib.Core.Bool.{cond, not, _||_}
+use Prim.Native.Nat.{ℕ, _+_, _<_, _≤_}
+use mathlib.Core.Bool.{not}
 use lib.ListN.{length}
 use lib.Dec.{eqb, ltb}
-use Rattle.scope.specs.Base.{Samples, Words, Lengths, zeros}
+use Rattle.scope.specs.Base.{Lengths, Samples, Words, zeros}
 use Rattle.scope.specs.Refusals.{numberOf, placeOf, kindNumber, placeNumber, refuseIf, _andThen_, leftByFrame}
 use Rattle.scope.specs.Geometry.{lengthsOf}
-use Rattle.scope.specs.Words.{shares}
-use Rattle.scope.specs.Frame.{pictureOf}
+use Rattle.scope.specs.Words.{shares, need}
+use Rattle.scope.specs.Frame.{needOfAll, pictureOf}
 use Rattle.scope.specs.declared.Geometry.{Geometry}
-use Rattle.scope.specs.declared.Place.{Place}
 use Rattle.scope.specs.declared.Place.the-variants.{Slice, Plane, Nothing}
 use Rattle.scope.specs.declared.Answer.{Answer}
 use Rattle.scope.specs.declared.Answer.the-variants.{Done, Refused}
@@ -48,8 +47,15 @@ painter picture l = record { answer = Done; planes = picture (l .geometry); work
 
 -- ---- "one that writes nothing and trusts old memory"
 
+-- of the planes; of the workspace; or only of the planes of a frame that it refuses
 abbrev pub WritesNothing : (D : Decoder) → Type 0
 WritesNothing D = (l : Lent) → D l .planes ≡ l .planes
+
+abbrev pub LeavesWorkspace : (D : Decoder) → Type 0
+LeavesWorkspace D = (l : Lent) → D l .workspace ≡ l .workspace
+
+abbrev pub LeavesRefused : (D : Decoder) → Type 0
+LeavesRefused D = (l : Lent) → 0 < numberOf (D l .answer) → D l .planes ≡ l .planes
 
 abbrev pub idler : Decoder
 idler l = record { answer = right l .answer; planes = l .planes; workspace = l .workspace }
@@ -85,28 +91,50 @@ guesser slice plane l =
       workspace = right l .workspace;
     }
 
--- no smaller workspace is enough for it, and no larger one too small
-pub record MakesUpNeed (need : Geometry → ℕ) (D : Decoder) : Type 0 where
-  pub enough : (l : Lent) → Accepts D l → need (l .geometry) ≤ length (l .workspace)
-  pub short : (l : Lent) → numberOf (D l .answer) ≡ 11 → length (l .workspace) < need (l .geometry)
+-- it asks for so many workspace words: it accepts no shorter workspace, and only a shorter one is refusal 11
+pub record Asks (asked : Geometry → Lengths → ℕ) (D : Decoder) : Type 0 where
+  pub enough : (l : Lent) → Accepts D l → asked (l .geometry) (l .lengths) ≤ length (l .workspace)
+  pub short : (l : Lent) → numberOf (D l .answer) ≡ 11 → length (l .workspace) < asked (l .geometry) (l .lengths)
 
-abbrev pub asker : (need : Geometry → ℕ) → Decoder
-asker need l =
-    let a : Answer = refuseIf (ltb (length (l .workspace)) (need (l .geometry))) 11 Nothing in
+-- one need for each geometry, whatever the lengths
+abbrev pub MakesUpNeed : (asked : Geometry → ℕ) (D : Decoder) → Type 0
+MakesUpNeed asked D = Asks (λ g lengths. asked g) D
+
+-- never document 01's need: one word more, say
+pub record AsksOther (asked : Geometry → Lengths → ℕ) (D : Decoder) : Type 0 where
+  pub asks : Asks asked D
+  pub other : (g : Geometry) (lengths : Lengths) → asked g lengths ≡ needOfAll g lengths → ⊥
+
+abbrev pub asker : (asked : Geometry → Lengths → ℕ) → Decoder
+asker asked l =
+    let a : Answer = refuseIf (ltb (length (l .workspace)) (asked (l .geometry) (l .lengths))) 11 Nothing in
     record {
       answer = a;
       planes = leftByFrame a (l .planes) (zeros (l .planes)) (pictureOf (l .frame) (l .geometry) (l .lengths));
       workspace = zeros (l .workspace);
     }
 
--- the same of a table by itself, by the count of its lengths
-pub record MakesUpNeedAlone (need : ℕ → ℕ) (B : Builder) : Type 0 where
-  pub enough : (ls : Lengths) (workspace : Words) → numberOf (B ls workspace .answer) ≡ 0 → need (length ls) ≤ length workspace
-  pub short : (ls : Lengths) (workspace : Words) → numberOf (B ls workspace .answer) ≡ 11 → length workspace < need (length ls)
+abbrev pub oneMore : (g : Geometry) (lengths : Lengths) → ℕ
+oneMore g lengths = needOfAll g lengths + 1
 
-abbrev pub askerAlone : (need : ℕ → ℕ) → Builder
-askerAlone need ls workspace =
-    record { answer = refuseIf (ltb (length workspace) (need (length ls))) 11 Nothing; workspace = rightBuilder ls workspace .workspace }
+-- the same of a table by itself; what is made up goes by the count of its lengths
+pub record AsksAlone (asked : Lengths → ℕ) (B : Builder) : Type 0 where
+  pub enough : (ls : Lengths) (workspace : Words) → numberOf (B ls workspace .answer) ≡ 0 → asked ls ≤ length workspace
+  pub short : (ls : Lengths) (workspace : Words) → numberOf (B ls workspace .answer) ≡ 11 → length workspace < asked ls
+
+abbrev pub MakesUpNeedAlone : (asked : ℕ → ℕ) (B : Builder) → Type 0
+MakesUpNeedAlone asked B = AsksAlone (λ ls. asked (length ls)) B
+
+pub record AsksOtherAlone (asked : Lengths → ℕ) (B : Builder) : Type 0 where
+  pub asks : AsksAlone asked B
+  pub other : (ls : Lengths) → asked ls ≡ need ls → ⊥
+
+abbrev pub askerAlone : (asked : Lengths → ℕ) → Builder
+askerAlone asked ls workspace =
+    record { answer = refuseIf (ltb (length workspace) (asked ls)) 11 Nothing; workspace = rightBuilder ls workspace .workspace }
+
+abbrev pub oneMoreAlone : (ls : Lengths) → ℕ
+oneMoreAlone ls = need ls + 1
 
 -- ---- "a table that accepts only complete codes"
 
@@ -116,9 +144,16 @@ CompleteOnly B = (ls : Lengths) (workspace : Words) → numberOf (B ls workspace
 
 abbrev pub completist : Builder
 completist ls workspace =
-    let a : Answer = refuseIf (not (eqb (shares ls) 262144)) 10 (Plane 0) in
-    record { answer = a; workspace = workspace }
+    record { answer = refuseIf (not (eqb (shares ls) 262144)) 10 (Plane 0); workspace = rightBuilder ls workspace .workspace }
 
--- the same of a frame whose table of plane 0 is such a one
+-- the same of a frame, by the code of its plane 0
+abbrev pub codeOf0 : (l : Lent) → Lengths
+codeOf0 l = lengthsOf (l .geometry) (l .lengths) 0
+
 abbrev pub CompleteOnlyFrames : (D : Decoder) → Type 0
-CompleteOnlyFrames D = (l : Lent) → Accepts D l → shares (lengthsOf (l .geometry) (l .lengths) 0) ≡ 262144
+CompleteOnlyFrames D = (l : Lent) → Accepts D l → shares (codeOf0 l) ≡ 262144
+
+abbrev pub completistOfFrames : Decoder
+completistOfFrames l =
+    let a : Answer = refuseIf (not (eqb (shares (codeOf0 l)) 262144)) 10 (Plane 0) in
+    record { answer = a; planes = right l .planes; workspace = zeros (l .workspace) }

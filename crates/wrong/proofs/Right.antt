@@ -1,30 +1,32 @@
 -- What stands against emptiness: the decoder, the table and the reading of document 01 meet the statements; the decoder whose rules are left open
 -- is that one when none is changed; and each behaviour of a wrong decoder is that of some decoder. Document 01, "What every public statement
 -- settles". Assumes nothing.
-use mathlib.Core.Path.{_≡_, refl, sym, ap, _∙_}
-use Prim.Native.Nat.{ℕ, zero, suc, _+_, _<_, _≤_}
+use mathlib.Core.Path.{_≡_, refl, ap}
+use Prim.Native.Nat.{ℕ, zero, suc, _+_, _*_, _%_, _^_, _<_}
 use native.Mathlib.Omega.{arith}
 use mathlib.Core.Bool.{Bool, true, false, cond, not}
-use mathlib.Core.List.{List, [], _∷_, _++_}
+use mathlib.Core.List.{[], _++_}
 use lib.ListN.{length}
 use lib.Dec.{eqb, ltb}
 use borrow.Author.Tests.{ltb-true, ltb-false, eqb-true, not-false}
-use Rattle.scope.specs.Base.{Bytes, Lengths, Samples, Words, zeros}
+use Rattle.scope.specs.Base.{Bytes, Lengths, Samples, Words, rebuilt, zeros}
 use Rattle.scope.specs.Refusals.{numberOf, refuseIf, leftByFrame}
 use Rattle.scope.specs.Geometry.{correlated, planeCount, sliceCount}
 use Rattle.scope.specs.Layout.{planeIndex}
-use Rattle.scope.specs.Words.{shares, wordAt}
-use Rattle.scope.specs.Frame.{residuesOf, sliceSamples, planeUpTo, wirePlane, colourPlane, bufferPlane, planesUpTo, pictureOf, table, answerOf, planesAfter, workspaceAfter}
+use Rattle.scope.specs.Words.{lengthOf, shares, wordOf, beginsWith, wordBelow, wordAt}
+use Rattle.scope.specs.Prediction.{median, predictor, prediction, sample, samplesOf}
+use Rattle.scope.specs.Frame.{residuesOf, sliceSamples, planeUpTo, wirePlane, bufferPlane, planesUpTo, pictureOf, table, answerOf, planesAfter, workspaceAfter}
 use Rattle.scope.specs.Alone.{readAnswer, samplesRead, workspaceRead}
-use Rattle.scope.specs.declared.Entry.{Entry}
 use Rattle.scope.specs.declared.Geometry.{Geometry}
+use Rattle.scope.specs.declared.Found.{Found}
+use Rattle.scope.specs.declared.Found.the-variants.{Word}
 use Rattle.scope.specs.declared.Place.{Place}
 use Rattle.scope.specs.declared.Place.the-variants.{Slice, Plane, Nothing}
 use Rattle.scope.specs.declared.Answer.{Answer}
 use Rattle.scope.specs.declared.Answer.the-variants.{Done, Refused}
-use Rattle.wrong.specs.Calls.{Lent, Outcome, right, rightReader}
-use Rattle.wrong.specs.Rules.{theRules, residuesBy, samplesBy, planeBy, wireBy, bufferBy, pictureBy, answerBy, decodesBy, readsBy}
-use Rattle.wrong.specs.Behaviours.{kindOf, whichOf, elsewhere, Asks, asker, AsksAlone, askerAlone, CompleteOnly, completist, CompleteOnlyFrames, completistOfFrames, codeOf0}
+use Rattle.wrong.specs.Calls.{Lent, right, rightReader}
+use Rattle.wrong.specs.Rules.{theRules, residuesBy, samplesBy, planeBy, wireBy, bufferBy, pictureBy, answerBy, decodesBy, readsBy, byMedian, byWordsBelow, byWords, byRowsUp}
+use Rattle.wrong.specs.Behaviours.{kindOf, whichOf, elsewhere, Asks, asker, AsksAlone, askerAlone, codeOf0}
 use Rattle.wrong.specs.Wrong.{SomeBehaveSo, RightAllowed}
 use Rattle.wrong.proofs.Shown.{right-entry, right-exported, right-table, right-table-exported, right-reading, right-reading-exported}
 
@@ -45,10 +47,6 @@ module _ (frame : Bytes) (g : Geometry) (lengths : Lengths) where
   unfolding pictureBy pictureOf bufferBy
   same-picture = ap (λ (w : ℕ → Samples). planesUpTo (bufferPlane (correlated (g .family)) (g .depth) w) (planeCount g)) same-wire
 
-  same-answer : (which : Entry) (p w : ℕ) → answerBy theRules frame g lengths which p w ≡ answerOf which frame g lengths p w
-  unfolding answerBy answerOf table residuesBy residuesOf
-  same-answer which p w = refl
-
 unchanged : (l : Lent) → decodesBy theRules l ≡ right l
 unfolding decodesBy planesAfter workspaceAfter answerBy answerOf table residuesBy residuesOf
 unchanged l =
@@ -63,6 +61,34 @@ unchanged-reading : (ls : Lengths) (payload : Bytes) (workspace : Words) (sample
 unfolding readsBy readAnswer samplesRead workspaceRead
 unchanged-reading ls payload workspace samples = refl
 
+-- ---- nothing changed in a rule
+
+same-word : (ls : Lengths) (payload : Bytes) (at n : ℕ) → byWordsBelow wordOf ls payload at n ≡ wordBelow ls payload at n
+unfolding byWordsBelow wordBelow beginsWith
+same-word ls payload at zero = refl
+same-word ls payload at (suc s) = ap (λ (x : Found). cond (beginsWith ls payload at s) (Word (lengthOf ls s) s) x) (same-word ls payload at s)
+
+unchanged-words : (ls : Lengths) (payload : Bytes) (at : ℕ) → byWords wordOf ls payload at ≡ wordAt ls payload at
+unfolding byWords wordAt
+unchanged-words ls payload at = same-word ls payload at (length ls)
+
+unchanged-median : (depth kind width f : ℕ) (residues : Samples) → byMedian median depth kind width f residues ≡ samplesOf depth kind width f residues
+unfolding byMedian samplesOf predictor
+unchanged-median depth kind width f residues = refl
+
+either-way : (t : Bool) (x : ℕ) → cond t x x ≡ x
+either-way true x = refl
+either-way false x = refl
+
+unchanged-rows : (depth kind width f : ℕ) (residues : Samples) → byRowsUp (λ up. up) depth kind width f residues ≡ samplesOf depth kind width f residues
+unfolding byRowsUp samplesOf sample
+unchanged-rows depth kind width f residues =
+    let same : (i : ℕ) → cond (ltb i (f * width)) f f ≡ f = λ i. either-way (ltb i (f * width)) f in
+    ap (λ (rows : ℕ → ℕ). rebuilt (λ i before residue. (residue + prediction (predictor depth kind) width (rows i) i before) % 2 ^ depth) residues)
+    (λ j i. same i j)
+
+-- ---- the whole
+
 pub right-allowed : RightAllowed
 right-allowed =
     record {
@@ -74,6 +100,9 @@ right-allowed =
       reading-exported = right-reading-exported;
       unchanged = unchanged;
       unchanged-reading = unchanged-reading;
+      unchanged-words = unchanged-words;
+      unchanged-median = unchanged-median;
+      unchanged-rows = unchanged-rows;
     }
 
 -- ---- the behaviours

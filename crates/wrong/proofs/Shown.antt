@@ -7,15 +7,14 @@ use lib.ListN.{length}
 use lib.Dec.{eqb}
 use Rattle.scope.specs.Base.{Bytes, Lengths, Samples, Words, one, zeros}
 use Rattle.scope.specs.Refusals.{numberOf, placeOf, kindNumber, placeNumber, refuseIf, _andThen_, leftByFrame}
-use Rattle.scope.specs.Frame.{answerOf, pictureOf, planesAfter, workspaceAfter, Decoded}
-use Rattle.scope.specs.Alone.{buildAnswer, workspaceBuilt, readAnswer, samplesRead}
+use Rattle.scope.specs.Frame.{answerOf, pictureOf, planesAfter, workspaceAfter}
 use Rattle.scope.specs.declared.Entry.{Entry}
 use Rattle.scope.specs.declared.Family.{Family}
 use Rattle.scope.specs.declared.Family.the-variants.{Gray, Rgb, Yuv, Rgba, Yuva}
 use Rattle.scope.specs.declared.Geometry.{Geometry}
 use Rattle.scope.specs.declared.Place.the-variants.{Nothing}
 use Rattle.scope.specs.declared.Answer.{Answer}
-use Rattle.magicyuv.specs.Boundary.{Numbers, familyOf, numbersFit, geometryOf, hostAnswer, Says}
+use Rattle.magicyuv.specs.Boundary.{familyOf, numbersFit, geometryOf, hostAnswer}
 use Rattle.wrong.specs.Calls.{Lent, Outcome, Decoder, right, Meets, familyNumber, numbersOf, MeetsHosted, Out, Builder, rightBuilder, Builds, BuildsHosted, OutBuilder, Reader, rightReader, Reads, ReadsHosted, OutReader}
 
 -- ---- a geometry is named by its numbers

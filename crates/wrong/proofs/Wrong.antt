@@ -1,12 +1,11 @@
 -- Document 01, "What every public statement settles" and "Slips to shut out": none of its wrong decoders meets the statements. Each is asked about
 -- one or two small frames (specs/Frames.antt), and what it says of them and what the statements say is computed. Assumes nothing.
 use mathlib.Core.Path.{_≡_, refl, sym, ap, _∙_}
-use Prim.Native.Nat.{ℕ, zero, suc, _<_, _≤_}
+use Prim.Native.Nat.{ℕ, _<_, _≤_}
 use native.Mathlib.Omega.{arith}
-use mathlib.Core.Bool.{Bool, true, false}
-use mathlib.Core.List.{List, [], _∷_, _++_}
-use lib.ListN.{length, getD, replicate}
-use Rattle.scope.specs.Base.{Bytes, Lengths, Samples, Words, count, sumBelow, listFrom, grown}
+use mathlib.Core.List.{[], _∷_}
+use lib.ListN.{replicate}
+use Rattle.scope.specs.Base.{Lengths, Samples, Words, count, sumBelow, listFrom, grown}
 use Rattle.scope.specs.Refusals.{numberOf, rowsOfEach, leftBy}
 use Rattle.scope.specs.Geometry.{sizeFits, factorFits, geometryFits, factorsDivide, sliceHeightDivides, small, planeWidth, planeHeight, planeSliceHeight, rowsAt, planeSamples, allSamples, lengthsOf, fields, swapped}
 use Rattle.scope.specs.Layout.{le32, entry, preambleEnd, countByte, planeIndex, namedBefore, placeInPlane, sliceStart, sliceEnd, isRaw, predictorOf, payloadOf, samplesIn}
@@ -18,12 +17,12 @@ use Rattle.scope.specs.Alone.{buildAnswer, readAnswer, samplesRead}
 use Rattle.scope.specs.declared.Geometry.{Geometry}
 use Rattle.scope.specs.declared.Place.the-variants.{Slice, Plane}
 use Rattle.scope.specs.declared.Answer.the-variants.{Done, Refused}
-use Rattle.wrong.specs.Calls.{Lent, Outcome, Decoder, right, Out, Builder, rightBuilder, OutBuilder, Reader, OutReader}
-use Rattle.wrong.specs.Rules.{Rules, residuesBy, samplesBy, planeBy, wireBy, bufferBy, pictureBy, answerBy, decodesBy, readsBy, slice0, copiesSlice0, byMedian, t87Always, clampAlways, firstUp, wordUp, upBelow, upAt, shortestFirst, filled, filledAt, unfilledIs0, rowAbove, addsRowAbove, ignoresFields, bFirst, planeMajor, assumesPlaneMajor}
+use Rattle.wrong.specs.Calls.{Lent, Decoder, right, Out, Builder, rightBuilder, OutBuilder, OutReader}
+use Rattle.wrong.specs.Rules.{residuesBy, samplesBy, planeBy, wireBy, bufferBy, pictureBy, answerBy, decodesBy, readsBy, slice0, copiesSlice0, byMedian, t87Always, clampAlways, firstUp, wordUp, byWordsBelow, byWords, shortestFirst, filled, filledAt, unfilledIs0, byRowsUp, addsRowAbove, ignoresFields, bFirst, planeMajor, assumesPlaneMajor}
 use Rattle.wrong.specs.Behaviours.{Accepts, kindOf, whichOf, RefusesAlways, FixedPicture, WritesNothing, LeavesWorkspace, LeavesRefused, ZeroFills, MakesUpSlice, MakesUpPlane, MakesUpNeed, AsksOther, MakesUpNeedAlone, AsksOtherAlone, CompleteOnly, CompleteOnlyFrames}
 use Rattle.wrong.specs.Frames.{dot, pair, colours, column, square, deepSquare}
-use Rattle.wrong.specs.Wrong.{AllRefused, RightAllowed}
-use Rattle.wrong.proofs.Shown.{Shown, out, right-entry, right-exported, out-builder, right-table, right-table-exported, ShownReading, out-reader, right-reading, right-reading-exported}
+use Rattle.wrong.specs.Wrong.{AllRefused}
+use Rattle.wrong.proofs.Shown.{Shown, out, out-builder, out-reader}
 
 -- names whose clauses the checker computes with, below
 open01 : Unit {0}
@@ -36,7 +35,7 @@ unfolding count sumBelow listFrom grown rowsOfEach leftBy
     needOfAll fewestBytes residuesOf sliceSamples planeUpTo wirePlane colourPlane planesUpTo pictureOf table answerOf planesAfter workspaceAfter
     buildAnswer readAnswer samplesRead
     residuesBy samplesBy planeBy wireBy bufferBy pictureBy answerBy decodesBy readsBy
-    slice0 byMedian firstUp wordUp upBelow upAt filled filledAt rowAbove planeMajor
+    slice0 byMedian firstUp wordUp byWordsBelow byWords filled filledAt byRowsUp planeMajor
     dot pair colours column square deepSquare
 open01 = tt
 
@@ -322,13 +321,13 @@ read-due : samplesRead (1 ∷ 2 ∷ 2 ∷ []) (0b1000_0000 ∷ []) (9 ∷ []) 4 
 unfolding open01
 read-due = refl
 
-read-up : readsBy upAt (1 ∷ 2 ∷ 2 ∷ []) (0b1000_0000 ∷ []) fourWords (9 ∷ []) .samples ≡ 1 ∷ []
+read-up : readsBy (byWords wordUp) (1 ∷ 2 ∷ 2 ∷ []) (0b1000_0000 ∷ []) fourWords (9 ∷ []) .samples ≡ 1 ∷ []
 unfolding open01
 read-up = refl
 
-shortest-first-alone : OutReader (readsBy upAt)
+shortest-first-alone : OutReader (readsBy (byWords wordUp))
 shortest-first-alone =
-    out-reader (readsBy upAt) (λ shown.
+    out-reader (readsBy (byWords wordUp)) (λ shown.
     let e : 1 ∷ [] ≡ 0 ∷ [] = sym read-up ∙ shown (1 ∷ 2 ∷ 2 ∷ []) (0b1000_0000 ∷ []) fourWords (9 ∷ []) .samples ∙ read-due in
     let z : _≡_ {A = ℕ} 1 0 = cc in
     omega (arith, z))

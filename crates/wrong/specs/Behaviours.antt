@@ -7,7 +7,7 @@ use mathlib.Core.Bool.{not}
 use lib.ListN.{length}
 use lib.Dec.{eqb, ltb}
 use Rattle.scope.specs.Base.{Lengths, Samples, Words, zeros}
-use Rattle.scope.specs.Refusals.{numberOf, placeOf, kindNumber, placeNumber, refuseIf, _andThen_, leftByFrame}
+use Rattle.scope.specs.Refusals.{numberOf, placeOf, kindNumber, placeNumber, refuseIf, leftByFrame}
 use Rattle.scope.specs.Geometry.{lengthsOf}
 use Rattle.scope.specs.Words.{shares, need}
 use Rattle.scope.specs.Frame.{needOfAll, pictureOf}
@@ -15,7 +15,7 @@ use Rattle.scope.specs.declared.Geometry.{Geometry}
 use Rattle.scope.specs.declared.Place.the-variants.{Slice, Plane, Nothing}
 use Rattle.scope.specs.declared.Answer.{Answer}
 use Rattle.scope.specs.declared.Answer.the-variants.{Done, Refused}
-use Rattle.wrong.specs.Calls.{Lent, Outcome, Decoder, right, Table, Builder, rightBuilder}
+use Rattle.wrong.specs.Calls.{Lent, Decoder, right, Builder, rightBuilder}
 
 -- a decoder gives planes for what is lent
 abbrev pub Accepts : (D : Decoder) (l : Lent) → Type 0

@@ -1,7 +1,6 @@
 -- What a decoder is, whatever it does inside: an outcome for each thing that may be lent to it; and what it is for one to meet the statement
 -- of the frame entries (`Decoded`), or of the exported ones (`Hosted`). The same of a table and a reading by itself. Document 01, "What every
 -- public statement settles". Assumes nothing.
-use mathlib.Core.Bool.{Bool, true, false}
 use Prim.Native.Nat.{ℕ}
 use lib.ListN.{length}
 use Rattle.scope.specs.Base.{Bytes, Lengths, Samples, Words, one}

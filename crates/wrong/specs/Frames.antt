@@ -1,8 +1,8 @@
 -- The small frames that tell the wrong decoders apart, as they are lent: document 01, "Layout", written out. Every sample and every workspace
 -- word is 9 before. Each frame begins with 32 bytes that nobody reads and entry 0, which "isn't used". Assumes nothing.
-use Prim.Native.Nat.{ℕ, _-_, _*_, _^_}
+use Prim.Native.Nat.{ℕ, _-_}
 use mathlib.Core.Bool.{Bool, true, false}
-use mathlib.Core.List.{List, [], _∷_, _++_}
+use mathlib.Core.List.{[], _∷_, _++_}
 use lib.ListN.{length, replicate}
 use Rattle.scope.specs.Base.{Bytes, Lengths}
 use Rattle.scope.specs.declared.Entry.the-variants.{Eight, Deep}

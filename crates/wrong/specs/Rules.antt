@@ -1,12 +1,12 @@
 -- Decoders that are right but for one rule: scope's decoding with four of its rules left open, and for each slip of document 01, "Slips to
--- shut out", the one rule that it changes. With none changed it is the decoder of document 01 (`unchanged`, proofs/Wrong.antt), so nothing
+-- shut out", the one rule that it changes. With none changed it is the decoder of document 01 (`right-allowed`, proofs/Right.antt), so nothing
 -- but the slip tells each apart. Assumes nothing.
 use Prim.Native.Nat.{ℕ, zero, suc, _+_, _-_, _*_, _/_, _%_, _^_}
 use mathlib.Core.Bool.{Bool, cond, not, _&&_}
 use mathlib.Core.List.{List, [], _∷_, _++_}
 use lib.ListN.{length, take, getD, replicate}
 use lib.Dec.{eqb, ltb, leb}
-use Rattle.scope.specs.Base.{Bytes, Lengths, Samples, Words, count, listBelow, rebuilt, zeros}
+use Rattle.scope.specs.Base.{Bytes, Lengths, Samples, count, listBelow, rebuilt, zeros}
 use Rattle.scope.specs.Refusals.{Row, row, firstOf, rowsOfEach, leftByFrame, leftAlone}
 use Rattle.scope.specs.Geometry.{correlated, planeCount, slicesPerPlane, sliceCount, planeWidth, fields, swapped}
 use Rattle.scope.specs.Layout.{preambleStart, planeIndex, isRaw, predictorOf, payloadOf, samplesIn}
@@ -21,7 +21,7 @@ use Rattle.scope.specs.declared.Found.{Found}
 use Rattle.scope.specs.declared.Found.the-variants.{Word, NoWord}
 use Rattle.scope.specs.declared.Place.the-variants.{Slice, Plane, Nothing}
 use Rattle.scope.specs.declared.Answer.{Answer}
-use Rattle.wrong.specs.Calls.{Lent, Outcome, Decoder, right, Reader}
+use Rattle.wrong.specs.Calls.{Decoder, right, Reader}
 
 -- ---- the rules that are left open
 
@@ -124,10 +124,13 @@ copiesSlice0 = rules wordAt samplesOf slice0 swapped
 
 -- ---- "Using T.87's median at depth 8, or the clamp at 10."
 
--- samples by another median
+-- samples by some median; by document 01's they are samplesOf's
 unfoldable pub byMedian : (median : ℕ → ℕ → ℕ → ℕ → ℕ) (depth kind width f : ℕ) (residues : Samples) → Samples
 byMedian median depth kind width f residues =
-    let predict : ℕ → ℕ → ℕ → ℕ = λ left top topleft. cond (eqb kind 3) (median depth left top topleft) (predictor depth kind left top topleft) in
+    let predict : ℕ → ℕ → ℕ → ℕ = λ left top topleft.
+    cond (eqb kind 1) left
+    (cond (eqb kind 2) (gradient depth left top topleft)
+    (median depth left top topleft)) in
     rebuilt (sample depth predict width f) residues
 
 -- T.87's at every depth, and the clamp at every depth
@@ -139,7 +142,7 @@ clampAlways = rules wordAt (byMedian clampMedian) itself swapped
 
 -- ---- "Words assigned shortest first."
 
--- Where the words of each length start if words of length 1 start at 0 and each length goes on where the one before it ended, one bit longer.
+-- where the words of each length start if those of length 1 start at 0, and each length goes on where the one before ended, one bit longer
 unfoldable pub firstUp : (ls : Lengths) (l : ℕ) → ℕ
 firstUp ls zero = 0
 firstUp ls (suc zero) = 0
@@ -148,17 +151,17 @@ firstUp ls (suc (suc l)) = (firstUp ls (suc l) + count (suc l) ls) * 2
 unfoldable pub wordUp : (ls : Lengths) (s : ℕ) → ℕ
 wordUp ls s = firstUp ls (lengthOf ls s) + count (lengthOf ls s) (take s ls)
 
--- the word at a position, by those words: among the symbols below n, and among all
-unfoldable pub upBelow : (ls : Lengths) (payload : Bytes) (at n : ℕ) → Found
-upBelow ls payload at zero = NoWord
-upBelow ls payload at (suc s) =
-    cond (ltb 0 (lengthOf ls s) && eqb (window payload at (lengthOf ls s)) (wordUp ls s)) (Word (lengthOf ls s) s) (upBelow ls payload at s)
+-- the word at a position, by some words; by document 01's it is wordAt's. Among the symbols below n, and among all.
+unfoldable pub byWordsBelow : (word : Lengths → ℕ → ℕ) (ls : Lengths) (payload : Bytes) (at n : ℕ) → Found
+byWordsBelow word ls payload at zero = NoWord
+byWordsBelow word ls payload at (suc s) =
+    cond (ltb 0 (lengthOf ls s) && eqb (window payload at (lengthOf ls s)) (word ls s)) (Word (lengthOf ls s) s) (byWordsBelow word ls payload at s)
 
-unfoldable pub upAt : (ls : Lengths) (payload : Bytes) (at : ℕ) → Found
-upAt ls payload at = upBelow ls payload at (length ls)
+unfoldable pub byWords : (word : Lengths → ℕ → ℕ) (ls : Lengths) (payload : Bytes) (at : ℕ) → Found
+byWords word ls payload at = byWordsBelow word ls payload at (length ls)
 
 abbrev pub shortestFirst : Rules
-shortestFirst = rules upAt samplesOf itself swapped
+shortestFirst = rules (byWords wordUp) samplesOf itself swapped
 
 -- ---- "Taking an unfilled slot for symbol 0."
 
@@ -174,14 +177,14 @@ unfilledIs0 = rules filledAt samplesOf itself swapped
 
 -- ---- "With two fields, adding the row directly above."
 
--- the first f rows are as they should be, and the later ones add the row directly above
-unfoldable pub rowAbove : (depth kind width f : ℕ) (residues : Samples) → Samples
-rowAbove depth kind width f residues =
-    let up : ℕ → Samples → ℕ = λ i before. prediction (predictor depth kind) width (cond (ltb i (f * width)) f 1) i before in
-    rebuilt (λ i before residue. (residue + up i before) % 2 ^ depth) residues
+-- Samples where rows after the first f add the row that is some rows up; where that is f, they are samplesOf's. Here it is 1.
+unfoldable pub byRowsUp : (up : ℕ → ℕ) (depth kind width f : ℕ) (residues : Samples) → Samples
+byRowsUp up depth kind width f residues =
+    let rows : ℕ → ℕ = λ i. cond (ltb i (f * width)) f (up f) in
+    rebuilt (λ i before residue. (residue + prediction (predictor depth kind) width (rows i) i before) % 2 ^ depth) residues
 
 abbrev pub addsRowAbove : Rules
-addsRowAbove = rules wordAt rowAbove itself swapped
+addsRowAbove = rules wordAt (byRowsUp (λ f. 1)) itself swapped
 
 -- two fields taken for one
 abbrev pub oneField : (depth kind width f : ℕ) (residues : Samples) → Samples

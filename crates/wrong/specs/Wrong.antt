@@ -4,10 +4,11 @@ use mathlib.Core.Path.{_≡_}
 use Prim.Native.Nat.{ℕ}
 use lib.ListN.{length}
 use Rattle.scope.specs.Base.{Bytes, Lengths, Samples, Words}
-use Rattle.scope.specs.Words.{wordAt}
+use Rattle.scope.specs.Words.{wordOf, wordAt}
+use Rattle.scope.specs.Prediction.{median, samplesOf}
 use Rattle.scope.specs.declared.Geometry.{Geometry}
 use Rattle.wrong.specs.Calls.{Lent, Decoder, right, Meets, MeetsHosted, Out, Builder, rightBuilder, Builds, BuildsHosted, OutBuilder, rightReader, Reads, ReadsHosted, OutReader}
-use Rattle.wrong.specs.Rules.{theRules, decodesBy, readsBy, copiesSlice0, t87Always, clampAlways, upAt, shortestFirst, filledAt, unfilledIs0, addsRowAbove, ignoresFields, bFirst, assumesPlaneMajor}
+use Rattle.wrong.specs.Rules.{theRules, decodesBy, readsBy, copiesSlice0, t87Always, byMedian, clampAlways, byWords, wordUp, shortestFirst, filledAt, unfilledIs0, byRowsUp, addsRowAbove, ignoresFields, bFirst, assumesPlaneMajor}
 use Rattle.wrong.specs.Behaviours.{RefusesAlways, refuser, FixedPicture, painter, WritesNothing, LeavesWorkspace, LeavesRefused, idler, ZeroFills, zeroFiller, MakesUpSlice, MakesUpPlane, guesser, MakesUpNeed, AsksOther, asker, oneMore, MakesUpNeedAlone, AsksOtherAlone, askerAlone, oneMoreAlone, CompleteOnly, completist, CompleteOnlyFrames, completistOfFrames}
 
 pub record AllRefused : Type 0 where
@@ -36,7 +37,7 @@ pub record AllRefused : Type 0 where
   pub clamp-at-10 : Out (decodesBy clampAlways)
   -- "Words assigned shortest first."
   pub shortest-first : Out (decodesBy shortestFirst)
-  pub shortest-first-alone : OutReader (readsBy upAt)
+  pub shortest-first-alone : OutReader (readsBy (byWords wordUp))
   -- "Assuming plane-major slices instead of the indices."
   pub plane-major : Out assumesPlaneMajor
   -- "With two fields, adding the row directly above."
@@ -73,7 +74,11 @@ pub record RightAllowed : Type 0 where
   pub table-exported : BuildsHosted rightBuilder
   pub reading : Reads rightReader
   pub reading-exported : ReadsHosted rightReader
-  -- with no rule changed, the decoder and the reading whose rules are left open (specs/Rules.antt) are these
+  -- with no rule changed, the decoder and the reading whose rules are left open (specs/Rules.antt) are these; nor does what is open in a rule
+  -- change it
   pub unchanged : (l : Lent) → decodesBy theRules l ≡ right l
   pub unchanged-reading : (ls : Lengths) (payload : Bytes) (workspace : Words) (samples : Samples)
       → readsBy wordAt ls payload workspace samples ≡ rightReader ls payload workspace samples
+  pub unchanged-words : (ls : Lengths) (payload : Bytes) (at : ℕ) → byWords wordOf ls payload at ≡ wordAt ls payload at
+  pub unchanged-median : (depth kind width f : ℕ) (residues : Samples) → byMedian median depth kind width f residues ≡ samplesOf depth kind width f residues
+  pub unchanged-rows : (depth kind width f : ℕ) (residues : Samples) → byRowsUp (λ up. up) depth kind width f residues ≡ samplesOf depth kind width f residues

@@ -4,10 +4,10 @@ use mathlib.Core.Path.{_≡_, refl, sym, ap, _∙_}
 use Prim.Native.Nat.{ℕ}
 use mathlib.Core.Bool.{Bool, true, false, not}
 use lib.ListN.{length}
-use lib.Dec.{eqb}
+use lib.Dec.{T, eqb}
 use Rattle.scope.specs.Base.{Bytes, Lengths, Samples, Words, one, zeros}
-use Rattle.scope.specs.Refusals.{numberOf, placeOf, kindNumber, placeNumber, refuseIf, _andThen_, leftByFrame}
-use Rattle.scope.specs.Frame.{answerOf, pictureOf, planesAfter, workspaceAfter}
+use Rattle.scope.specs.Refusals.{numberOf, refuseIf, _andThen_, leftByFrame}
+use Rattle.scope.specs.Frame.{answerOf, pictureOf, planesAfter, workspaceAfter, Decoded}
 use Rattle.scope.specs.declared.Entry.{Entry}
 use Rattle.scope.specs.declared.Family.{Family}
 use Rattle.scope.specs.declared.Family.the-variants.{Gray, Rgb, Yuv, Rgba, Yuva}
@@ -15,7 +15,8 @@ use Rattle.scope.specs.declared.Geometry.{Geometry}
 use Rattle.scope.specs.declared.Place.the-variants.{Nothing}
 use Rattle.scope.specs.declared.Answer.{Answer}
 use Rattle.magicyuv.specs.Boundary.{familyOf, numbersFit, geometryOf, hostAnswer}
-use Rattle.wrong.specs.Calls.{Lent, Outcome, Decoder, right, Meets, familyNumber, numbersOf, MeetsHosted, Out, Builder, rightBuilder, Builds, BuildsHosted, OutBuilder, Reader, rightReader, Reads, ReadsHosted, OutReader}
+use Rattle.wrong.specs.Calls.{Lent, canBeLent, Outcome, Decoder, right, Meets, familyNumber, numbersOf, MeetsHosted, Out, Builder, rightBuilder, lentToBuild, Builds, BuildsHosted, OutBuilder, Reading, Reader, rightReader, lentToRead, Reads, ReadsHosted, OutReader}
+use Rattle.wrong.specs.Behaviours.{kindOf, whichOf}
 
 -- ---- a geometry is named by its numbers
 
@@ -66,68 +67,78 @@ host-picture frame g lengths = ap (λ (x : Geometry). pictureOf frame x lengths)
 
 -- ---- a frame
 
--- an answer's number and place, and what is left in the planes and in the workspace
-pub record Shown (l : Lent) (o : Outcome) : Type 0 where
-  pub number : numberOf (o .answer) ≡ numberOf (right l .answer)
-  pub kind : kindNumber (placeOf (o .answer)) ≡ kindNumber (placeOf (right l .answer))
-  pub place : placeNumber (placeOf (o .answer)) ≡ placeNumber (placeOf (right l .answer))
-  pub planes : o .planes ≡ right l .planes
-  pub workspace : o .workspace ≡ right l .workspace
+module _ (l : Lent) where
+  answered : hostAnswer (l .which) (l .frame) (numbersOf (l .geometry)) (l .lengths) (length (l .planes)) (length (l .workspace)) ≡ right l .answer
+  answered = host-answer (l .which) (l .frame) (l .geometry) (l .lengths) (length (l .planes)) (length (l .workspace))
 
-by-entry : (D : Decoder) → Meets D → (l : Lent) → Shown l (D l)
-by-entry D m l =
+  hosted-planes :
+      leftByFrame (hostAnswer (l .which) (l .frame) (numbersOf (l .geometry)) (l .lengths) (length (l .planes)) (length (l .workspace)))
+      (l .planes) (zeros (l .planes)) (pictureOf (l .frame) (geometryOf (numbersOf (l .geometry))) (l .lengths))
+      ≡ right l .planes
+  unfolding planesAfter
+  hosted-planes =
+      ap (λ (a : Answer). leftByFrame a (l .planes) (zeros (l .planes)) (pictureOf (l .frame) (geometryOf (numbersOf (l .geometry))) (l .lengths))) answered
+      ∙ ap (λ (x : Samples). leftByFrame (right l .answer) (l .planes) (zeros (l .planes)) x) (host-picture (l .frame) (l .geometry) (l .lengths))
+
+  hosted-workspace :
+      leftByFrame (hostAnswer (l .which) (l .frame) (numbersOf (l .geometry)) (l .lengths) (length (l .planes)) (length (l .workspace)))
+      (l .workspace) (zeros (l .workspace)) (zeros (l .workspace))
+      ≡ right l .workspace
+  unfolding workspaceAfter
+  hosted-workspace = ap (λ (a : Answer). leftByFrame a (l .workspace) (zeros (l .workspace)) (zeros (l .workspace))) answered
+
+-- what the statements say of something that can be lent: computed, frame by frame (Wrong.antt)
+pub record Due (l : Lent) (a : Answer) (p : Samples) (w : Words) : Type 0 where
+  pub lent : T (canBeLent l)
+  pub answer : right l .answer ≡ a
+  pub planes : right l .planes ≡ p
+  pub workspace : right l .workspace ≡ w
+
+-- what an outcome must then show: the answer's number and place, and what is left in the planes and in the workspace
+pub record Shown (o : Outcome) (a : Answer) (p : Samples) (w : Words) : Type 0 where
+  pub number : numberOf (o .answer) ≡ numberOf a
+  pub kind : kindOf (o .answer) ≡ kindOf a
+  pub place : whichOf (o .answer) ≡ whichOf a
+  pub planes : o .planes ≡ p
+  pub workspace : o .workspace ≡ w
+
+pub record Shows (D : Decoder) : Type 0 where
+  pub at : {l : Lent} {a : Answer} {p : Samples} {w : Words} → Due l a p w → Shown (D l) a p w
+
+by-entry : (D : Decoder) → Meets D → {l : Lent} {a : Answer} {p : Samples} {w : Words} → Due l a p w → Shown (D l) a p w
+by-entry D m {l} d =
     record {
-      number = ap numberOf (m l .answer);
-      kind = ap (λ (a : Answer). kindNumber (placeOf a)) (m l .answer);
-      place = ap (λ (a : Answer). placeNumber (placeOf a)) (m l .answer);
-      planes = m l .planes;
-      workspace = m l .workspace;
+      number = ap numberOf (m l (d .lent) .answer ∙ d .answer);
+      kind = ap kindOf (m l (d .lent) .answer ∙ d .answer);
+      place = ap whichOf (m l (d .lent) .answer ∙ d .answer);
+      planes = m l (d .lent) .planes ∙ d .planes;
+      workspace = m l (d .lent) .workspace ∙ d .workspace;
     }
 
-hosted-planes : (l : Lent)
-    → leftByFrame (hostAnswer (l .which) (l .frame) (numbersOf (l .geometry)) (l .lengths) (length (l .planes)) (length (l .workspace))) (l .planes) (zeros (l .planes)) (pictureOf (l .frame) (geometryOf (numbersOf (l .geometry))) (l .lengths))
-    ≡ right l .planes
-unfolding planesAfter
-hosted-planes l =
-    ap (λ (a : Answer). leftByFrame a (l .planes) (zeros (l .planes)) (pictureOf (l .frame) (geometryOf (numbersOf (l .geometry))) (l .lengths)))
-    (host-answer (l .which) (l .frame) (l .geometry) (l .lengths) (length (l .planes)) (length (l .workspace)))
-    ∙ ap (λ (x : Samples). leftByFrame (right l .answer) (l .planes) (zeros (l .planes)) x) (host-picture (l .frame) (l .geometry) (l .lengths))
-
-hosted-workspace : (l : Lent)
-    → leftByFrame (hostAnswer (l .which) (l .frame) (numbersOf (l .geometry)) (l .lengths) (length (l .planes)) (length (l .workspace))) (l .workspace) (zeros (l .workspace)) (zeros (l .workspace))
-    ≡ right l .workspace
-unfolding workspaceAfter
-hosted-workspace l =
-    ap (λ (a : Answer). leftByFrame a (l .workspace) (zeros (l .workspace)) (zeros (l .workspace)))
-    (host-answer (l .which) (l .frame) (l .geometry) (l .lengths) (length (l .planes)) (length (l .workspace)))
-
-answered : (l : Lent) → hostAnswer (l .which) (l .frame) (numbersOf (l .geometry)) (l .lengths) (length (l .planes)) (length (l .workspace)) ≡ right l .answer
-answered l = host-answer (l .which) (l .frame) (l .geometry) (l .lengths) (length (l .planes)) (length (l .workspace))
-
-by-export : (D : Decoder) → MeetsHosted D → (l : Lent) → Shown l (D l)
-by-export D m l =
+by-export : (D : Decoder) → MeetsHosted D → {l : Lent} {a : Answer} {p : Samples} {w : Words} → Due l a p w → Shown (D l) a p w
+by-export D m {l} d =
     record {
-      number = m l .answer .number ∙ ap numberOf (answered l);
-      kind = m l .answer .kind ∙ ap (λ (a : Answer). kindNumber (placeOf a)) (answered l);
-      place = m l .answer .place ∙ ap (λ (a : Answer). placeNumber (placeOf a)) (answered l);
-      planes = m l .planes ∙ hosted-planes l;
-      workspace = m l .workspace ∙ hosted-workspace l;
+      number = m l (d .lent) .answer .number ∙ ap numberOf (answered l ∙ d .answer);
+      kind = m l (d .lent) .answer .kind ∙ ap kindOf (answered l ∙ d .answer);
+      place = m l (d .lent) .answer .place ∙ ap whichOf (answered l ∙ d .answer);
+      planes = m l (d .lent) .planes ∙ hosted-planes l ∙ d .planes;
+      workspace = m l (d .lent) .workspace ∙ hosted-workspace l ∙ d .workspace;
     }
 
--- a decoder that contradicts what both show is out
-pub out : (D : Decoder) → (((l : Lent) → Shown l (D l)) → ⊥) → Out D
-out D never = record { entry = λ m. never (by-entry D m); exported = λ m. never (by-export D m) }
+-- a decoder that contradicts what both statements show is out
+pub out : (D : Decoder) → (Shows D → ⊥) → Out D
+out D never = record { entry = λ m. never (record { at = λ d. by-entry D m d }); exported = λ m. never (record { at = λ d. by-export D m d }) }
 
 pub right-entry : Meets right
-right-entry l = record { answer = refl; planes = refl; workspace = refl }
+right-entry l h = record { answer = refl; planes = refl; workspace = refl }
 
 pub right-exported : MeetsHosted right
-right-exported l =
+right-exported l h =
     record {
       answer = record {
         number = ap numberOf (sym (answered l));
-        kind = ap (λ (a : Answer). kindNumber (placeOf a)) (sym (answered l));
-        place = ap (λ (a : Answer). placeNumber (placeOf a)) (sym (answered l));
+        kind = ap kindOf (sym (answered l));
+        place = ap whichOf (sym (answered l));
       };
       planes = sym (hosted-planes l);
       workspace = sym (hosted-workspace l);
@@ -135,42 +146,65 @@ right-exported l =
 
 -- ---- a table by itself: its number is enough
 
-pub out-builder : (B : Builder) → (((ls : Lengths) (workspace : Words) → numberOf (B ls workspace .answer) ≡ numberOf (rightBuilder ls workspace .answer)) → ⊥) → OutBuilder B
-out-builder B never =
-    record {
-      alone = λ m. never (λ ls workspace. ap numberOf (m ls workspace .answer));
-      exported = λ m. never (λ ls workspace. m ls workspace .answer .number);
-    }
+pub record DueTable (ls : Lengths) (ws : Words) (n : ℕ) : Type 0 where
+  pub lent : T (lentToBuild ls ws)
+  pub number : numberOf (rightBuilder ls ws .answer) ≡ n
+
+pub record ShowsTable (B : Builder) : Type 0 where
+  pub at : {ls : Lengths} {ws : Words} {n : ℕ} → DueTable ls ws n → numberOf (B ls ws .answer) ≡ n
+
+table-alone : (B : Builder) → Builds B → {ls : Lengths} {ws : Words} {n : ℕ} → DueTable ls ws n → numberOf (B ls ws .answer) ≡ n
+table-alone B m {ls} {ws} d = ap numberOf (m ls ws (d .lent) .answer) ∙ d .number
+
+table-export : (B : Builder) → BuildsHosted B → {ls : Lengths} {ws : Words} {n : ℕ} → DueTable ls ws n → numberOf (B ls ws .answer) ≡ n
+table-export B m {ls} {ws} d = m ls ws (d .lent) .answer .number ∙ d .number
+
+pub out-builder : (B : Builder) → (ShowsTable B → ⊥) → OutBuilder B
+out-builder B never = record { alone = λ m. never (record { at = λ d. table-alone B m d }); exported = λ m. never (record { at = λ d. table-export B m d }) }
 
 pub right-table : Builds rightBuilder
-right-table ls workspace = record { answer = refl; workspace = refl }
+right-table ls ws h = record { answer = refl; workspace = refl }
 
 pub right-table-exported : BuildsHosted rightBuilder
-right-table-exported ls workspace = record { answer = record { number = refl; kind = refl; place = refl }; workspace = refl }
+right-table-exported ls ws h = record { answer = record { number = refl; kind = refl; place = refl }; workspace = refl }
 
 -- ---- a reading by itself: its number and its samples are enough
 
-pub record ShownReading (R : Reader) (ls : Lengths) (payload : Bytes) (workspace : Words) (found : Samples) : Type 0 where
-  pub number : numberOf (R ls payload workspace found .answer) ≡ numberOf (rightReader ls payload workspace found .answer)
-  pub samples : R ls payload workspace found .samples ≡ rightReader ls payload workspace found .samples
+pub record DueReading (ls : Lengths) (payload : Bytes) (ws : Words) (found : Samples) (n : ℕ) (ss : Samples) : Type 0 where
+  pub lent : T (lentToRead ls payload ws found)
+  pub number : numberOf (rightReader ls payload ws found .answer) ≡ n
+  pub samples : rightReader ls payload ws found .samples ≡ ss
 
-pub out-reader : (R : Reader)
-    → (((ls : Lengths) (payload : Bytes) (workspace : Words) (samples : Samples) → ShownReading R ls payload workspace samples) → ⊥) → OutReader R
-out-reader R never =
+pub record ShownReading (o : Reading) (n : ℕ) (ss : Samples) : Type 0 where
+  pub number : numberOf (o .answer) ≡ n
+  pub samples : o .samples ≡ ss
+
+pub record ShowsReading (R : Reader) : Type 0 where
+  pub at : {ls : Lengths} {payload : Bytes} {ws : Words} {found : Samples} {n : ℕ} {ss : Samples}
+      → DueReading ls payload ws found n ss → ShownReading (R ls payload ws found) n ss
+
+read-alone : (R : Reader) → Reads R → {ls : Lengths} {payload : Bytes} {ws : Words} {found : Samples} {n : ℕ} {ss : Samples}
+    → DueReading ls payload ws found n ss → ShownReading (R ls payload ws found) n ss
+read-alone R m {ls} {payload} {ws} {found} d =
     record {
-      alone = λ m. never (λ ls payload workspace samples. record {
-        number = ap numberOf (m ls payload workspace samples .answer);
-        samples = m ls payload workspace samples .samples;
-      });
-      exported = λ m. never (λ ls payload workspace samples. record {
-        number = m ls payload workspace samples .answer .number;
-        samples = m ls payload workspace samples .samples;
-      });
+      number = ap numberOf (m ls payload ws found (d .lent) .answer) ∙ d .number;
+      samples = m ls payload ws found (d .lent) .samples ∙ d .samples;
     }
 
+read-export : (R : Reader) → ReadsHosted R → {ls : Lengths} {payload : Bytes} {ws : Words} {found : Samples} {n : ℕ} {ss : Samples}
+    → DueReading ls payload ws found n ss → ShownReading (R ls payload ws found) n ss
+read-export R m {ls} {payload} {ws} {found} d =
+    record {
+      number = m ls payload ws found (d .lent) .answer .number ∙ d .number;
+      samples = m ls payload ws found (d .lent) .samples ∙ d .samples;
+    }
+
+pub out-reader : (R : Reader) → (ShowsReading R → ⊥) → OutReader R
+out-reader R never = record { alone = λ m. never (record { at = λ d. read-alone R m d }); exported = λ m. never (record { at = λ d. read-export R m d }) }
+
 pub right-reading : Reads rightReader
-right-reading ls payload workspace samples = record { answer = refl; samples = refl; workspace = refl }
+right-reading ls payload ws samples h = record { answer = refl; samples = refl; workspace = refl }
 
 pub right-reading-exported : ReadsHosted rightReader
-right-reading-exported ls payload workspace samples =
+right-reading-exported ls payload ws samples h =
     record { answer = record { number = refl; kind = refl; place = refl }; samples = refl; workspace = refl }

@@ -1,13 +1,17 @@
 -- What a decoder is, whatever it does inside: an outcome for each thing that may be lent to it; and what it is for one to meet the statement
 -- of the frame entries (`Decoded`), or of the exported ones (`Hosted`). The same of a table and a reading by itself. Document 01, "What every
 -- public statement settles". Assumes nothing.
-use Prim.Native.Nat.{ℕ}
+use Prim.Native.Nat.{ℕ, _^_}
+use mathlib.Core.Bool.{Bool, true, _&&_}
+use mathlib.Core.List.{List, [], _∷_}
 use lib.ListN.{length}
+use lib.Dec.{T, ltb}
 use Rattle.scope.specs.Base.{Bytes, Lengths, Samples, Words, one}
 use Rattle.scope.specs.Refusals.{numberOf, placeOf, kindNumber, placeNumber}
 use Rattle.scope.specs.Frame.{answerOf, planesAfter, workspaceAfter, Decoded}
 use Rattle.scope.specs.Alone.{buildAnswer, workspaceBuilt, BuiltAlone, readAnswer, samplesRead, workspaceRead, ReadAlone}
 use Rattle.scope.specs.declared.Entry.{Entry}
+use Rattle.scope.specs.declared.Entry.the-variants.{Eight, Deep}
 use Rattle.scope.specs.declared.Family.{Family}
 use Rattle.scope.specs.declared.Family.the-variants.{Gray, Rgb, Yuv, Rgba, Yuva}
 use Rattle.scope.specs.declared.Geometry.{Geometry}
@@ -25,6 +29,25 @@ pub record Lent : Type 0 where
   pub lengths : Lengths
   pub planes : Samples
   pub workspace : Words
+
+-- every element of a list is below n
+unfoldable pub allBelow : (n : ℕ) (list : List ℕ) → Bool
+allBelow n [] = true
+allBelow n (x ∷ xs) = ltb x n && allBelow n xs
+
+-- "byte samples" and "16-bit samples"
+abbrev pub sampleBound : (which : Entry) → ℕ
+sampleBound Eight = 2 ^ 8
+sampleBound Deep = 2 ^ 16
+
+-- What a caller can lend: bytes are bytes, samples are of the entry's width, words and the geometry's figures have 32 bits. A statement
+-- speaks of this alone, so a decoder is not out for what it would do with anything else.
+unfoldable pub canBeLent : (l : Lent) → Bool
+canBeLent l =
+    let g : Geometry = l .geometry in
+    allBelow (2 ^ 8) (l .frame) && allBelow (2 ^ 8) (l .lengths)
+    && allBelow (sampleBound (l .which)) (l .planes) && allBelow (2 ^ 32) (l .workspace)
+    && allBelow (2 ^ 32) (g .width ∷ g .height ∷ g .«slice_height» ∷ g .sx ∷ g .sy ∷ g .depth ∷ [])
 
 -- what is answered, and what planes and workspace hold then
 pub record Outcome : Type 0 where
@@ -44,10 +67,10 @@ right l =
       workspace = workspaceAfter (l .which) (l .frame) (l .geometry) (l .lengths) (length (l .planes)) (l .workspace);
     }
 
--- a decoder meets the statement of the frame entries, whatever is lent
+-- a decoder meets the statement of the frame entries, whatever is lent to it
 abbrev pub Meets : (D : Decoder) → Type 0
 Meets D =
-    (l : Lent)
+    (l : Lent) → T (canBeLent l)
     → Decoded (l .which) (l .frame) (l .geometry) (l .lengths) (l .planes) (l .workspace) (D l .answer) (D l .planes) (D l .workspace)
 
 -- ---- the same at the host's boundary
@@ -72,7 +95,7 @@ replyOf a = record { number = numberOf a; kind = kindNumber (placeOf a); place =
 -- a decoder meets the statement of the exported frame entries
 abbrev pub MeetsHosted : (D : Decoder) → Type 0
 MeetsHosted D =
-    (l : Lent)
+    (l : Lent) → T (canBeLent l)
     → Hosted (l .which) (l .frame) (numbersOf (l .geometry)) (l .lengths) (l .planes) (l .workspace) (replyOf (D l .answer)) (D l .planes) (D l .workspace)
 
 -- a decoder is out: it meets neither
@@ -92,11 +115,18 @@ Builder = (ls : Lengths) (workspace : Words) → Table
 abbrev pub rightBuilder : Builder
 rightBuilder ls workspace = record { answer = buildAnswer ls (length workspace); workspace = workspaceBuilt ls workspace }
 
+unfoldable pub lentToBuild : (ls : Lengths) (workspace : Words) → Bool
+lentToBuild ls workspace = allBelow (2 ^ 8) ls && allBelow (2 ^ 32) workspace
+
 abbrev pub Builds : (B : Builder) → Type 0
-Builds B = (ls : Lengths) (workspace : Words) → BuiltAlone ls workspace (B ls workspace .answer) (B ls workspace .workspace)
+Builds B =
+    (ls : Lengths) (workspace : Words) → T (lentToBuild ls workspace)
+    → BuiltAlone ls workspace (B ls workspace .answer) (B ls workspace .workspace)
 
 abbrev pub BuildsHosted : (B : Builder) → Type 0
-BuildsHosted B = (ls : Lengths) (workspace : Words) → BuiltFor ls workspace (replyOf (B ls workspace .answer)) (B ls workspace .workspace)
+BuildsHosted B =
+    (ls : Lengths) (workspace : Words) → T (lentToBuild ls workspace)
+    → BuiltFor ls workspace (replyOf (B ls workspace .answer)) (B ls workspace .workspace)
 
 pub record OutBuilder (B : Builder) : Type 0 where
   pub alone : Builds B → ⊥
@@ -120,14 +150,18 @@ rightReader ls payload workspace samples =
       samples = samplesRead ls payload samples (length workspace);
     }
 
+unfoldable pub lentToRead : (ls : Lengths) (payload : Bytes) (workspace : Words) (samples : Samples) → Bool
+lentToRead ls payload workspace samples =
+    allBelow (2 ^ 8) ls && allBelow (2 ^ 8) payload && allBelow (2 ^ 32) workspace && allBelow (2 ^ 16) samples
+
 abbrev pub Reads : (R : Reader) → Type 0
 Reads R =
-    (ls : Lengths) (payload : Bytes) (workspace : Words) (samples : Samples)
+    (ls : Lengths) (payload : Bytes) (workspace : Words) (samples : Samples) → T (lentToRead ls payload workspace samples)
     → ReadAlone ls payload workspace samples (R ls payload workspace samples .answer) (R ls payload workspace samples .workspace) (R ls payload workspace samples .samples)
 
 abbrev pub ReadsHosted : (R : Reader) → Type 0
 ReadsHosted R =
-    (ls : Lengths) (payload : Bytes) (workspace : Words) (samples : Samples)
+    (ls : Lengths) (payload : Bytes) (workspace : Words) (samples : Samples) → T (lentToRead ls payload workspace samples)
     → ReadFor ls payload workspace samples (replyOf (R ls payload workspace samples .answer)) (R ls payload workspace samples .workspace) (R ls payload workspace samples .samples)
 
 pub record OutReader (R : Reader) : Type 0 where

@@ -132,15 +132,15 @@ applied false n p h e = absurd (omega (arith, h, e))
 asker-asks : (asked : Geometry → Lengths → ℕ) → Asks asked (asker asked)
 asker-asks asked =
     record {
-      enough = λ l e. ltb-false _ _ (passed _ 11 Nothing (omega arith) e);
-      short = λ l e. ltb-true _ _ (applied _ 11 Nothing (omega arith) e);
+      enough = λ l h e. ltb-false _ _ (passed _ 11 Nothing (omega arith) e);
+      short = λ l h e. ltb-true _ _ (applied _ 11 Nothing (omega arith) e);
     }
 
 asker-asks-alone : (asked : Lengths → ℕ) → AsksAlone asked (askerAlone asked)
 asker-asks-alone asked =
     record {
-      enough = λ ls w e. ltb-false _ _ (passed _ 11 Nothing (omega arith) e);
-      short = λ ls w e. ltb-true _ _ (applied _ 11 Nothing (omega arith) e);
+      enough = λ ls w h e. ltb-false _ _ (passed _ 11 Nothing (omega arith) e);
+      short = λ ls w h e. ltb-true _ _ (applied _ 11 Nothing (omega arith) e);
     }
 
 full : (x : ℕ) → numberOf (refuseIf (not (eqb x 262144)) 10 (Plane 0)) ≡ 0 → x ≡ 262144
@@ -149,18 +149,18 @@ full x e = eqb-true x 262144 (not-false (eqb x 262144) (passed (not (eqb x 26214
 pub some-behave-so : SomeBehaveSo
 some-behave-so =
     record {
-      refuses-always = λ l. omega arith;
-      fixed-picture = λ picture l e. refl;
-      writes-nothing = λ l. refl;
-      leaves-workspace = λ l. refl;
-      leaves-refused = λ l e. refl;
-      zero-fills = λ l e. refl;
-      makes-up-slice = λ slice plane l e. slice-moved (slice (l .geometry)) (plane (l .geometry)) (right l .answer) e;
-      makes-up-plane = λ slice plane l e. plane-moved (slice (l .geometry)) (plane (l .geometry)) (right l .answer) e;
+      refuses-always = λ l h. omega arith;
+      fixed-picture = λ picture l h e. refl;
+      writes-nothing = λ l h. refl;
+      leaves-workspace = λ l h. refl;
+      leaves-refused = λ l h e. refl;
+      zero-fills = λ l h e. refl;
+      makes-up-slice = λ slice plane l h e. slice-moved (slice (l .geometry)) (plane (l .geometry)) (right l .answer) e;
+      makes-up-plane = λ slice plane l h e. plane-moved (slice (l .geometry)) (plane (l .geometry)) (right l .answer) e;
       makes-up-need = λ asked. asker-asks (λ g lengths. asked g);
       asks-other = record { asks = asker-asks _; other = λ g lengths e. omega (arith, e) };
       makes-up-need-alone = λ asked. asker-asks-alone (λ ls. asked (length ls));
       asks-other-alone = record { asks = asker-asks-alone _; other = λ ls e. omega (arith, e) };
-      complete-only = λ ls w e. full (shares ls) e;
-      complete-only-frames = λ l e. full (shares (codeOf0 l)) e;
+      complete-only = λ ls w h e. full (shares ls) e;
+      complete-only-frames = λ l h e. full (shares (codeOf0 l)) e;
     }

@@ -7,7 +7,7 @@ use lib.ListN.{length}
 use lib.Dec.{T, eqb}
 use Rattle.scope.specs.Base.{Bytes, Lengths, Samples, Words, one, zeros}
 use Rattle.scope.specs.Refusals.{numberOf, refuseIf, _andThen_, leftByFrame}
-use Rattle.scope.specs.Frame.{answerOf, pictureOf, planesAfter, workspaceAfter, Decoded}
+use Rattle.scope.specs.Frame.{answerOf, pictureOf, planesAfter, workspaceAfter}
 use Rattle.scope.specs.declared.Entry.{Entry}
 use Rattle.scope.specs.declared.Family.{Family}
 use Rattle.scope.specs.declared.Family.the-variants.{Gray, Rgb, Yuv, Rgba, Yuva}

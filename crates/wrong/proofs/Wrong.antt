@@ -20,7 +20,7 @@ use Rattle.scope.specs.declared.Answer.{Answer}
 use Rattle.scope.specs.declared.Answer.the-variants.{Done, Refused}
 use Rattle.wrong.specs.Calls.{Lent, allBelow, canBeLent, Decoder, Out, Builder, lentToBuild, OutBuilder, lentToRead, OutReader}
 use Rattle.wrong.specs.Rules.{residuesBy, samplesBy, planeBy, wireBy, bufferBy, pictureBy, answerBy, decodesBy, readsBy, slice0, copiesSlice0, byMedian, t87Always, clampAlways, firstUp, wordUp, byWordsBelow, byWords, shortestFirst, filled, filledAt, unfilledIs0, byRowsUp, addsRowAbove, ignoresFields, bFirst, planeMajor, assumesPlaneMajor}
-use Rattle.wrong.specs.Behaviours.{Accepts, kindOf, whichOf, RefusesAlways, FixedPicture, WritesNothing, LeavesWorkspace, LeavesRefused, ZeroFills, MakesUpSlice, MakesUpPlane, MakesUpNeed, AsksOther, MakesUpNeedAlone, AsksOtherAlone, CompleteOnly, codeOf0, CompleteOnlyFrames}
+use Rattle.wrong.specs.Behaviours.{RefusesAlways, FixedPicture, WritesNothing, LeavesWorkspace, LeavesRefused, ZeroFills, MakesUpSlice, MakesUpPlane, MakesUpNeed, AsksOther, MakesUpNeedAlone, AsksOtherAlone, CompleteOnly, codeOf0, CompleteOnlyFrames}
 use Rattle.wrong.specs.Frames.{dot, pair, colours, column, square, deepSquare}
 use Rattle.wrong.specs.Wrong.{AllRefused}
 use Rattle.wrong.proofs.Shown.{Due, out, DueTable, out-builder, DueReading, out-reader}
@@ -60,7 +60,7 @@ unfolding open01
 eight = record { lent = tt; answer = refl; planes = refl; workspace = refl }
 
 refuses-always : (D : Decoder) → RefusesAlways D → Out D
-refuses-always D does = out D (λ shown. omega (arith, shown .at seven .number, does (dotOf 7)))
+refuses-always D does = out D (λ shown. omega (arith, shown .at seven .number, does (dotOf 7) (seven .lent)))
 
 -- 7 and 8 are due for one geometry
 fixed-picture : (picture : Geometry → Samples) (D : Decoder) → FixedPicture picture D → Out D
@@ -68,8 +68,8 @@ unfolding dot
 fixed-picture picture D does =
     out D (λ shown.
     let g : Geometry = dotOf 7 .geometry in
-    let a : picture g ≡ 7 ∷ [] = sym (does (dotOf 7) (shown .at seven .number)) ∙ shown .at seven .planes in
-    let b : picture g ≡ 8 ∷ [] = sym (does (dotOf 8) (shown .at eight .number)) ∙ shown .at eight .planes in
+    let a : picture g ≡ 7 ∷ [] = sym (does (dotOf 7) (seven .lent) (shown .at seven .number)) ∙ shown .at seven .planes in
+    let b : picture g ≡ 8 ∷ [] = sym (does (dotOf 8) (eight .lent) (shown .at eight .number)) ∙ shown .at eight .planes in
     let z : _≡_ {A = ℕ} 7 8 = cc in
     omega (arith, z))
 
@@ -78,7 +78,7 @@ writes-nothing : (D : Decoder) → WritesNothing D → Out D
 unfolding dot
 writes-nothing D does =
     out D (λ shown.
-    let e : 9 ∷ [] ≡ 7 ∷ [] = sym (does (dotOf 7)) ∙ shown .at seven .planes in
+    let e : 9 ∷ [] ≡ 7 ∷ [] = sym (does (dotOf 7) (seven .lent)) ∙ shown .at seven .planes in
     let z : _≡_ {A = ℕ} 9 7 = cc in
     omega (arith, z))
 
@@ -87,7 +87,7 @@ leaves-workspace : (D : Decoder) → LeavesWorkspace D → Out D
 unfolding dot
 leaves-workspace D does =
     out D (λ shown.
-    let e : 9 ∷ [] ≡ 0 ∷ [] = sym (does (dotOf 7)) ∙ shown .at seven .workspace in
+    let e : 9 ∷ [] ≡ 0 ∷ [] = sym (does (dotOf 7) (seven .lent)) ∙ shown .at seven .workspace in
     let z : _≡_ {A = ℕ} 9 0 = cc in
     omega (arith, z))
 
@@ -95,7 +95,7 @@ zero-fills : (D : Decoder) → ZeroFills D → Out D
 unfolding dot
 zero-fills D does =
     out D (λ shown.
-    let e : 0 ∷ [] ≡ 7 ∷ [] = sym (does (dotOf 7) (shown .at seven .number)) ∙ shown .at seven .planes in
+    let e : 0 ∷ [] ≡ 7 ∷ [] = sym (does (dotOf 7) (seven .lent) (shown .at seven .number)) ∙ shown .at seven .planes in
     let z : _≡_ {A = ℕ} 0 7 = cc in
     omega (arith, z))
 
@@ -115,7 +115,7 @@ unfolding pair
 leaves-refused D does =
     out D (λ shown.
     let m : 0 < numberOf (D (pair 0 1) .answer) = omega (arith, shown .at at-slice-0 .number) in
-    let e : 9 ∷ 9 ∷ [] ≡ 0 ∷ 0 ∷ [] = sym (does (pair 0 1) m) ∙ shown .at at-slice-0 .planes in
+    let e : 9 ∷ 9 ∷ [] ≡ 0 ∷ 0 ∷ [] = sym (does (pair 0 1) (at-slice-0 .lent) m) ∙ shown .at at-slice-0 .planes in
     let z : _≡_ {A = ℕ} 9 0 = cc in
     omega (arith, z))
 
@@ -124,8 +124,8 @@ unfolding pair
 makes-up-slice slice D does =
     out D (λ shown.
     let g : Geometry = pair 0 1 .geometry in
-    let a : slice g ≡ 0 = sym (does (pair 0 1) (shown .at at-slice-0 .kind)) ∙ shown .at at-slice-0 .place in
-    let b : slice g ≡ 1 = sym (does (pair 1 0) (shown .at at-slice-1 .kind)) ∙ shown .at at-slice-1 .place in
+    let a : slice g ≡ 0 = sym (does (pair 0 1) (at-slice-0 .lent) (shown .at at-slice-0 .kind)) ∙ shown .at at-slice-0 .place in
+    let b : slice g ≡ 1 = sym (does (pair 1 0) (at-slice-1 .lent) (shown .at at-slice-1 .kind)) ∙ shown .at at-slice-1 .place in
     omega (arith, a, b))
 
 -- a length of 19 in plane 0, and in plane 1
@@ -142,8 +142,8 @@ unfolding colours
 makes-up-plane plane D does =
     out D (λ shown.
     let g : Geometry = colours [] [] .geometry in
-    let a : plane g ≡ 0 = sym (does (colours (19 ∷ []) []) (shown .at at-plane-0 .kind)) ∙ shown .at at-plane-0 .place in
-    let b : plane g ≡ 1 = sym (does (colours [] (19 ∷ [])) (shown .at at-plane-1 .kind)) ∙ shown .at at-plane-1 .place in
+    let a : plane g ≡ 0 = sym (does (colours (19 ∷ []) []) (at-plane-0 .lent) (shown .at at-plane-0 .kind)) ∙ shown .at at-plane-0 .place in
+    let b : plane g ≡ 1 = sym (does (colours [] (19 ∷ [])) (at-plane-1 .lent) (shown .at at-plane-1 .kind)) ∙ shown .at at-plane-1 .place in
     omega (arith, a, b))
 
 -- one workspace word, which is enough where no symbol has a word (`seven`), is too little for two words of one bit
@@ -156,8 +156,8 @@ unfolding dot
 makes-up-need asked D does =
     out D (λ shown.
     let g : Geometry = dotOf 7 .geometry in
-    let a : asked g ≤ 1 = does .enough (dotOf 7) (shown .at seven .number) in
-    let b : 1 < asked g = does .short (dot 1 7 (1 ∷ 1 ∷ []) 1) (shown .at one-is-short .number) in
+    let a : asked g ≤ 1 = does .enough (dotOf 7) (seven .lent) (shown .at seven .number) in
+    let b : 1 < asked g = does .short (dot 1 7 (1 ∷ 1 ∷ []) 1) (one-is-short .lent) (shown .at one-is-short .number) in
     omega (arith, a, b))
 
 -- and no workspace word is always too little
@@ -174,8 +174,8 @@ unfolding dot
 asks-other asked D does =
     out D (λ shown.
     let l : Lent = dotOf 7 in
-    let a : asked (l .geometry) (l .lengths) ≤ 1 = does .asks .enough l (shown .at seven .number) in
-    let b : 0 < asked (l .geometry) (l .lengths) = does .asks .short (dot 1 7 [] 0) (shown .at none-is-short .number) in
+    let a : asked (l .geometry) (l .lengths) ≤ 1 = does .asks .enough l (seven .lent) (shown .at seven .number) in
+    let b : 0 < asked (l .geometry) (l .lengths) = does .asks .short (dot 1 7 [] 0) (none-is-short .lent) (shown .at none-is-short .number) in
     does .other (l .geometry) (l .lengths) (omega (arith, a, b, seven-needs-one)))
 
 -- the same of a table by itself
@@ -194,8 +194,8 @@ two-words-in-one = record { lent = tt; number = refl }
 makes-up-need-alone : (asked : ℕ → ℕ) (B : Builder) → MakesUpNeedAlone asked B → OutBuilder B
 makes-up-need-alone asked B does =
     out-builder B (λ shown.
-    let a : asked 2 ≤ 1 = does .enough (0 ∷ 0 ∷ []) (9 ∷ []) (shown .at wordless-in-one) in
-    let b : 1 < asked 2 = does .short (1 ∷ 1 ∷ []) (9 ∷ []) (shown .at two-words-in-one) in
+    let a : asked 2 ≤ 1 = does .enough (0 ∷ 0 ∷ []) (9 ∷ []) (wordless-in-one .lent) (shown .at wordless-in-one) in
+    let b : 1 < asked 2 = does .short (1 ∷ 1 ∷ []) (9 ∷ []) (two-words-in-one .lent) (shown .at two-words-in-one) in
     omega (arith, a, b))
 
 wordless-need : need (0 ∷ 0 ∷ []) ≡ 1
@@ -205,8 +205,8 @@ wordless-need = refl
 asks-other-alone : (asked : Lengths → ℕ) (B : Builder) → AsksOtherAlone asked B → OutBuilder B
 asks-other-alone asked B does =
     out-builder B (λ shown.
-    let a : asked (0 ∷ 0 ∷ []) ≤ 1 = does .asks .enough (0 ∷ 0 ∷ []) (9 ∷ []) (shown .at wordless-in-one) in
-    let b : 0 < asked (0 ∷ 0 ∷ []) = does .asks .short (0 ∷ 0 ∷ []) [] (shown .at wordless-in-none) in
+    let a : asked (0 ∷ 0 ∷ []) ≤ 1 = does .asks .enough (0 ∷ 0 ∷ []) (9 ∷ []) (wordless-in-one .lent) (shown .at wordless-in-one) in
+    let b : 0 < asked (0 ∷ 0 ∷ []) = does .asks .short (0 ∷ 0 ∷ []) [] (wordless-in-none .lent) (shown .at wordless-in-none) in
     does .other (0 ∷ 0 ∷ []) (omega (arith, a, b, wordless-need)))
 
 -- ---- complete codes only: one word of one bit takes half the room, and is built and read
@@ -222,7 +222,7 @@ half = refl
 complete-only : (B : Builder) → CompleteOnly B → OutBuilder B
 complete-only B does =
     out-builder B (λ shown.
-    let e : shares (1 ∷ []) ≡ 262144 = does (1 ∷ []) (9 ∷ 9 ∷ []) (shown .at half-builds) in
+    let e : shares (1 ∷ []) ≡ 262144 = does (1 ∷ []) (9 ∷ 9 ∷ []) (half-builds .lent) (shown .at half-builds) in
     omega (arith, e, half))
 
 abbrev halfDot : Lent
@@ -239,7 +239,7 @@ half-of-dot = refl
 complete-only-frames : (D : Decoder) → CompleteOnlyFrames D → Out D
 complete-only-frames D does =
     out D (λ shown.
-    let e : shares (codeOf0 halfDot) ≡ 262144 = does halfDot (shown .at half-decodes .number) in
+    let e : shares (codeOf0 halfDot) ≡ 262144 = does halfDot (half-decodes .lent) (shown .at half-decodes .number) in
     omega (arith, e, half-of-dot))
 
 -- ---- decoders that are right but for one rule: what is due, and what each gives

@@ -6,7 +6,7 @@ use Prim.Native.Nat.{ℕ, _+_, _<_, _≤_}
 use mathlib.Core.Bool.{not}
 use lib.ListN.{length}
 use lib.Dec.{eqb, ltb}
-use Rattle.scope.specs.Base.{Lengths, Samples, Words, zeros}
+use Rattle.scope.specs.Base.{Lengths, Samples, zeros}
 use Rattle.scope.specs.Refusals.{numberOf, placeOf, kindNumber, placeNumber, refuseIf, leftByFrame}
 use Rattle.scope.specs.Geometry.{lengthsOf}
 use Rattle.scope.specs.Words.{shares, need}
@@ -15,7 +15,7 @@ use Rattle.scope.specs.declared.Geometry.{Geometry}
 use Rattle.scope.specs.declared.Place.the-variants.{Slice, Plane, Nothing}
 use Rattle.scope.specs.declared.Answer.{Answer}
 use Rattle.scope.specs.declared.Answer.the-variants.{Done, Refused}
-use Rattle.wrong.specs.Calls.{Lent, Decoder, right, Builder, rightBuilder}
+use Rattle.wrong.specs.Calls.{Lent, WhateverIsLent, Decoder, right, Builder, rightBuilder, WhateverIsLentToBuild}
 
 -- a decoder gives planes for what is lent
 abbrev pub Accepts : (D : Decoder) (l : Lent) → Type 0
@@ -31,7 +31,7 @@ whichOf a = placeNumber (placeOf a)
 -- ---- "a decoder that refuses always"
 
 abbrev pub RefusesAlways : (D : Decoder) → Type 0
-RefusesAlways D = (l : Lent) → 0 < numberOf (D l .answer)
+RefusesAlways D = WhateverIsLent (λ l. 0 < numberOf (D l .answer))
 
 abbrev pub refuser : Decoder
 refuser l = record { answer = Refused 5 Nothing; planes = zeros (l .planes); workspace = zeros (l .workspace) }
@@ -40,7 +40,7 @@ refuser l = record { answer = Refused 5 Nothing; planes = zeros (l .planes); wor
 
 -- one for each geometry, whatever the frame
 abbrev pub FixedPicture : (picture : Geometry → Samples) (D : Decoder) → Type 0
-FixedPicture picture D = (l : Lent) → Accepts D l → D l .planes ≡ picture (l .geometry)
+FixedPicture picture D = WhateverIsLent (λ l. Accepts D l → D l .planes ≡ picture (l .geometry))
 
 abbrev pub painter : (picture : Geometry → Samples) → Decoder
 painter picture l = record { answer = Done; planes = picture (l .geometry); workspace = zeros (l .workspace) }
@@ -49,13 +49,13 @@ painter picture l = record { answer = Done; planes = picture (l .geometry); work
 
 -- of the planes; of the workspace; or only of the planes of a frame that it refuses
 abbrev pub WritesNothing : (D : Decoder) → Type 0
-WritesNothing D = (l : Lent) → D l .planes ≡ l .planes
+WritesNothing D = WhateverIsLent (λ l. D l .planes ≡ l .planes)
 
 abbrev pub LeavesWorkspace : (D : Decoder) → Type 0
-LeavesWorkspace D = (l : Lent) → D l .workspace ≡ l .workspace
+LeavesWorkspace D = WhateverIsLent (λ l. D l .workspace ≡ l .workspace)
 
 abbrev pub LeavesRefused : (D : Decoder) → Type 0
-LeavesRefused D = (l : Lent) → 0 < numberOf (D l .answer) → D l .planes ≡ l .planes
+LeavesRefused D = WhateverIsLent (λ l. 0 < numberOf (D l .answer) → D l .planes ≡ l .planes)
 
 abbrev pub idler : Decoder
 idler l = record { answer = right l .answer; planes = l .planes; workspace = l .workspace }
@@ -63,7 +63,7 @@ idler l = record { answer = right l .answer; planes = l .planes; workspace = l .
 -- ---- "or zero-fills"
 
 abbrev pub ZeroFills : (D : Decoder) → Type 0
-ZeroFills D = (l : Lent) → Accepts D l → D l .planes ≡ zeros (l .planes)
+ZeroFills D = WhateverIsLent (λ l. Accepts D l → D l .planes ≡ zeros (l .planes))
 
 abbrev pub zeroFiller : Decoder
 zeroFiller l = record { answer = right l .answer; planes = zeros (l .planes); workspace = right l .workspace }
@@ -71,10 +71,10 @@ zeroFiller l = record { answer = right l .answer; planes = zeros (l .planes); wo
 -- ---- "one that makes up a refusal's slice, plane or workspace need"
 
 abbrev pub MakesUpSlice : (slice : Geometry → ℕ) (D : Decoder) → Type 0
-MakesUpSlice slice D = (l : Lent) → kindOf (D l .answer) ≡ 1 → whichOf (D l .answer) ≡ slice (l .geometry)
+MakesUpSlice slice D = WhateverIsLent (λ l. kindOf (D l .answer) ≡ 1 → whichOf (D l .answer) ≡ slice (l .geometry))
 
 abbrev pub MakesUpPlane : (plane : Geometry → ℕ) (D : Decoder) → Type 0
-MakesUpPlane plane D = (l : Lent) → kindOf (D l .answer) ≡ 2 → whichOf (D l .answer) ≡ plane (l .geometry)
+MakesUpPlane plane D = WhateverIsLent (λ l. kindOf (D l .answer) ≡ 2 → whichOf (D l .answer) ≡ plane (l .geometry))
 
 -- slice s, or plane p, in place of the one that an answer names
 abbrev pub elsewhere : (s p : ℕ) (answer : Answer) → Answer
@@ -93,8 +93,8 @@ guesser slice plane l =
 
 -- it asks for so many workspace words: it accepts no shorter workspace, and only a shorter one is refusal 11
 pub record Asks (asked : Geometry → Lengths → ℕ) (D : Decoder) : Type 0 where
-  pub enough : (l : Lent) → Accepts D l → asked (l .geometry) (l .lengths) ≤ length (l .workspace)
-  pub short : (l : Lent) → numberOf (D l .answer) ≡ 11 → length (l .workspace) < asked (l .geometry) (l .lengths)
+  pub enough : WhateverIsLent (λ l. Accepts D l → asked (l .geometry) (l .lengths) ≤ length (l .workspace))
+  pub short : WhateverIsLent (λ l. numberOf (D l .answer) ≡ 11 → length (l .workspace) < asked (l .geometry) (l .lengths))
 
 -- one need for each geometry, whatever the lengths
 abbrev pub MakesUpNeed : (asked : Geometry → ℕ) (D : Decoder) → Type 0
@@ -119,8 +119,8 @@ oneMore g lengths = needOfAll g lengths + 1
 
 -- the same of a table by itself; what is made up goes by the count of its lengths
 pub record AsksAlone (asked : Lengths → ℕ) (B : Builder) : Type 0 where
-  pub enough : (ls : Lengths) (workspace : Words) → numberOf (B ls workspace .answer) ≡ 0 → asked ls ≤ length workspace
-  pub short : (ls : Lengths) (workspace : Words) → numberOf (B ls workspace .answer) ≡ 11 → length workspace < asked ls
+  pub enough : WhateverIsLentToBuild (λ ls workspace. numberOf (B ls workspace .answer) ≡ 0 → asked ls ≤ length workspace)
+  pub short : WhateverIsLentToBuild (λ ls workspace. numberOf (B ls workspace .answer) ≡ 11 → length workspace < asked ls)
 
 abbrev pub MakesUpNeedAlone : (asked : ℕ → ℕ) (B : Builder) → Type 0
 MakesUpNeedAlone asked B = AsksAlone (λ ls. asked (length ls)) B
@@ -140,7 +140,7 @@ oneMoreAlone ls = need ls + 1
 
 -- the shares of all that is accepted are exactly one
 abbrev pub CompleteOnly : (B : Builder) → Type 0
-CompleteOnly B = (ls : Lengths) (workspace : Words) → numberOf (B ls workspace .answer) ≡ 0 → shares ls ≡ 262144
+CompleteOnly B = WhateverIsLentToBuild (λ ls workspace. numberOf (B ls workspace .answer) ≡ 0 → shares ls ≡ 262144)
 
 abbrev pub completist : Builder
 completist ls workspace =
@@ -151,7 +151,7 @@ abbrev pub codeOf0 : (l : Lent) → Lengths
 codeOf0 l = lengthsOf (l .geometry) (l .lengths) 0
 
 abbrev pub CompleteOnlyFrames : (D : Decoder) → Type 0
-CompleteOnlyFrames D = (l : Lent) → Accepts D l → shares (codeOf0 l) ≡ 262144
+CompleteOnlyFrames D = WhateverIsLent (λ l. Accepts D l → shares (codeOf0 l) ≡ 262144)
 
 abbrev pub completistOfFrames : Decoder
 completistOfFrames l =

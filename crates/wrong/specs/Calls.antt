@@ -40,14 +40,17 @@ abbrev pub sampleBound : (which : Entry) → ℕ
 sampleBound Eight = 2 ^ 8
 sampleBound Deep = 2 ^ 16
 
--- What a caller can lend: bytes are bytes, samples are of the entry's width, words and the geometry's figures have 32 bits. A statement
--- speaks of this alone, so a decoder is not out for what it would do with anything else.
+-- What a caller can lend: bytes are bytes, samples are of the entry's width, words and the geometry's figures have 32 bits. No decoder is out
+-- for what it would do with anything else.
 unfoldable pub canBeLent : (l : Lent) → Bool
 canBeLent l =
     let g : Geometry = l .geometry in
     allBelow (2 ^ 8) (l .frame) && allBelow (2 ^ 8) (l .lengths)
     && allBelow (sampleBound (l .which)) (l .planes) && allBelow (2 ^ 32) (l .workspace)
     && allBelow (2 ^ 32) (g .width ∷ g .height ∷ g .«slice_height» ∷ g .sx ∷ g .sy ∷ g .depth ∷ [])
+
+abbrev pub WhateverIsLent : (P : Lent → Type 0) → Type 0
+WhateverIsLent P = (l : Lent) → T (canBeLent l) → P l
 
 -- what is answered, and what planes and workspace hold then
 pub record Outcome : Type 0 where
@@ -70,8 +73,7 @@ right l =
 -- a decoder meets the statement of the frame entries, whatever is lent to it
 abbrev pub Meets : (D : Decoder) → Type 0
 Meets D =
-    (l : Lent) → T (canBeLent l)
-    → Decoded (l .which) (l .frame) (l .geometry) (l .lengths) (l .planes) (l .workspace) (D l .answer) (D l .planes) (D l .workspace)
+    WhateverIsLent (λ l. Decoded (l .which) (l .frame) (l .geometry) (l .lengths) (l .planes) (l .workspace) (D l .answer) (D l .planes) (D l .workspace))
 
 -- ---- the same at the host's boundary
 
@@ -95,8 +97,7 @@ replyOf a = record { number = numberOf a; kind = kindNumber (placeOf a); place =
 -- a decoder meets the statement of the exported frame entries
 abbrev pub MeetsHosted : (D : Decoder) → Type 0
 MeetsHosted D =
-    (l : Lent) → T (canBeLent l)
-    → Hosted (l .which) (l .frame) (numbersOf (l .geometry)) (l .lengths) (l .planes) (l .workspace) (replyOf (D l .answer)) (D l .planes) (D l .workspace)
+    WhateverIsLent (λ l. Hosted (l .which) (l .frame) (numbersOf (l .geometry)) (l .lengths) (l .planes) (l .workspace) (replyOf (D l .answer)) (D l .planes) (D l .workspace))
 
 -- a decoder is out: it meets neither
 pub record Out (D : Decoder) : Type 0 where
@@ -118,15 +119,16 @@ rightBuilder ls workspace = record { answer = buildAnswer ls (length workspace);
 unfoldable pub lentToBuild : (ls : Lengths) (workspace : Words) → Bool
 lentToBuild ls workspace = allBelow (2 ^ 8) ls && allBelow (2 ^ 32) workspace
 
+abbrev pub WhateverIsLentToBuild : (P : Lengths → Words → Type 0) → Type 0
+WhateverIsLentToBuild P = (ls : Lengths) (workspace : Words) → T (lentToBuild ls workspace) → P ls workspace
+
 abbrev pub Builds : (B : Builder) → Type 0
 Builds B =
-    (ls : Lengths) (workspace : Words) → T (lentToBuild ls workspace)
-    → BuiltAlone ls workspace (B ls workspace .answer) (B ls workspace .workspace)
+    WhateverIsLentToBuild (λ ls workspace. BuiltAlone ls workspace (B ls workspace .answer) (B ls workspace .workspace))
 
 abbrev pub BuildsHosted : (B : Builder) → Type 0
 BuildsHosted B =
-    (ls : Lengths) (workspace : Words) → T (lentToBuild ls workspace)
-    → BuiltFor ls workspace (replyOf (B ls workspace .answer)) (B ls workspace .workspace)
+    WhateverIsLentToBuild (λ ls workspace. BuiltFor ls workspace (replyOf (B ls workspace .answer)) (B ls workspace .workspace))
 
 pub record OutBuilder (B : Builder) : Type 0 where
   pub alone : Builds B → ⊥

@@ -25,7 +25,7 @@ use Rattle.scope.specs.declared.Place.the-variants.{Slice, Plane, Nothing}
 use Rattle.scope.specs.declared.Answer.{Answer}
 use Rattle.scope.specs.declared.Answer.the-variants.{Done, Refused}
 use Rattle.wrong.specs.Calls.{Lent, right, rightReader}
-use Rattle.wrong.specs.Rules.{theRules, residuesBy, samplesBy, planeBy, wireBy, bufferBy, pictureBy, answerBy, decodesBy, readsBy, byMedian, byWordsBelow, byWords, byRowsUp}
+use Rattle.wrong.specs.Rules.{theRules, residuesBy, samplesBy, planeBy, wireBy, bufferBy, pictureBy, answerBy, decodesBy, readsBy, predictorBy, byMedian, byWordsBelow, byWords, byRowsUp}
 use Rattle.wrong.specs.Behaviours.{kindOf, whichOf, elsewhere, Asks, asker, AsksAlone, askerAlone, codeOf0}
 use Rattle.wrong.specs.Wrong.{SomeBehaveSo, RightAllowed}
 use Rattle.wrong.proofs.Shown.{right-entry, right-exported, right-table, right-table-exported, right-reading, right-reading-exported}
@@ -73,7 +73,7 @@ unfolding byWords wordAt
 unchanged-words ls payload at = same-word ls payload at (length ls)
 
 unchanged-median : (depth kind width f : ℕ) (residues : Samples) → byMedian median depth kind width f residues ≡ samplesOf depth kind width f residues
-unfolding byMedian samplesOf predictor
+unfolding byMedian predictorBy samplesOf predictor
 unchanged-median depth kind width f residues = refl
 
 either-way : (t : Bool) (x : ℕ) → cond t x x ≡ x

@@ -19,7 +19,7 @@ use Rattle.scope.specs.declared.Place.the-variants.{Slice, Plane, Nothing}
 use Rattle.scope.specs.declared.Answer.{Answer}
 use Rattle.scope.specs.declared.Answer.the-variants.{Done, Refused}
 use Rattle.wrong.specs.Calls.{Lent, allBelow, canBeLent, Decoder, Out, Builder, lentToBuild, OutBuilder, lentToRead, OutReader}
-use Rattle.wrong.specs.Rules.{residuesBy, samplesBy, planeBy, wireBy, bufferBy, pictureBy, answerBy, decodesBy, readsBy, slice0, copiesSlice0, byMedian, t87Always, clampAlways, firstUp, wordUp, byWordsBelow, byWords, shortestFirst, filled, filledAt, unfilledIs0, byRowsUp, addsRowAbove, ignoresFields, bFirst, planeMajor, assumesPlaneMajor}
+use Rattle.wrong.specs.Rules.{residuesBy, samplesBy, planeBy, wireBy, bufferBy, pictureBy, answerBy, decodesBy, readsBy, slice0, copiesSlice0, predictorBy, byMedian, t87Always, clampAlways, firstUp, wordUp, byWordsBelow, byWords, shortestFirst, filled, filledAt, unfilledIs0, byRowsUp, addsRowAbove, ignoresFields, bFirst, planeMajor, assumesPlaneMajor}
 use Rattle.wrong.specs.Behaviours.{RefusesAlways, FixedPicture, WritesNothing, LeavesWorkspace, LeavesRefused, ZeroFills, MakesUpSlice, MakesUpPlane, MakesUpNeed, AsksOther, MakesUpNeedAlone, AsksOtherAlone, CompleteOnly, codeOf0, CompleteOnlyFrames}
 use Rattle.wrong.specs.Frames.{dot, pair, colours, column, square, deepSquare}
 use Rattle.wrong.specs.Wrong.{AllRefused}
@@ -36,7 +36,7 @@ unfolding count sumBelow listFrom grown rowsOfEach leftBy
     needOfAll fewestBytes residuesOf sliceSamples planeUpTo wirePlane colourPlane planesUpTo pictureOf table answerOf planesAfter workspaceAfter
     buildAnswer readAnswer samplesRead
     residuesBy samplesBy planeBy wireBy bufferBy pictureBy answerBy decodesBy readsBy
-    slice0 byMedian firstUp wordUp byWordsBelow byWords filled filledAt byRowsUp planeMajor
+    slice0 predictorBy byMedian firstUp wordUp byWordsBelow byWords filled filledAt byRowsUp planeMajor
     allBelow canBeLent lentToBuild lentToRead dot pair colours column square deepSquare
 open01 = tt
 

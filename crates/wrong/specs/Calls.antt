@@ -49,6 +49,7 @@ canBeLent l =
     && allBelow (sampleBound (l .which)) (l .planes) && allBelow (2 ^ 32) (l .workspace)
     && allBelow (2 ^ 32) (g .width ∷ g .height ∷ g .«slice_height» ∷ g .sx ∷ g .sy ∷ g .depth ∷ [])
 
+-- so it is for everything that can be lent
 abbrev pub WhateverIsLent : (P : Lent → Type 0) → Type 0
 WhateverIsLent P = (l : Lent) → T (canBeLent l) → P l
 
@@ -104,7 +105,7 @@ pub record Out (D : Decoder) : Type 0 where
   pub entry : Meets D → ⊥
   pub exported : MeetsHosted D → ⊥
 
--- ---- a table by itself
+-- ---- a table by itself: the same, from one plane's lengths and a workspace
 
 pub record Table : Type 0 where
   pub answer : Answer
@@ -134,7 +135,7 @@ pub record OutBuilder (B : Builder) : Type 0 where
   pub alone : Builds B → ⊥
   pub exported : BuildsHosted B → ⊥
 
--- ---- a reading by itself
+-- ---- a reading by itself: the same, from lengths, payload, workspace and a 16-bit buffer
 
 pub record Reading : Type 0 where
   pub answer : Answer

@@ -47,7 +47,7 @@ itself samples size s = samples s
 abbrev pub theRules : Rules
 theRules = rules wordAt samplesOf itself swapped
 
--- ---- a frame by such rules, as Frame.antt of scope has it
+-- ---- a frame by such rules: crates/scope/specs/Frame.antt, name for name, with the rules in their places
 
 module _ (r : Rules) (frame : Bytes) (g : Geometry) (lengths : Lengths) where
   unfoldable pub residuesBy : (s : ℕ) → Chain
@@ -124,14 +124,15 @@ copiesSlice0 = rules wordAt samplesOf slice0 swapped
 
 -- ---- "Using T.87's median at depth 8, or the clamp at 10."
 
--- samples by some median; by document 01's they are samplesOf's
-unfoldable pub byMedian : (median : ℕ → ℕ → ℕ → ℕ → ℕ) (depth kind width f : ℕ) (residues : Samples) → Samples
-byMedian median depth kind width f residues =
-    let predict : ℕ → ℕ → ℕ → ℕ = λ left top topleft.
+-- the predictors with some median, and samples by them; with document 01's they are samplesOf's
+unfoldable pub predictorBy : (median : ℕ → ℕ → ℕ → ℕ → ℕ) (depth kind left top topleft : ℕ) → ℕ
+predictorBy median depth kind left top topleft =
     cond (eqb kind 1) left
     (cond (eqb kind 2) (gradient depth left top topleft)
-    (median depth left top topleft)) in
-    rebuilt (sample depth predict width f) residues
+    (median depth left top topleft))
+
+unfoldable pub byMedian : (median : ℕ → ℕ → ℕ → ℕ → ℕ) (depth kind width f : ℕ) (residues : Samples) → Samples
+byMedian median depth kind width f residues = rebuilt (sample depth (predictorBy median depth kind) width f) residues
 
 -- T.87's at every depth, and the clamp at every depth
 abbrev pub t87Always : Rules
@@ -148,6 +149,7 @@ firstUp ls zero = 0
 firstUp ls (suc zero) = 0
 firstUp ls (suc (suc l)) = (firstUp ls (suc l) + count (suc l) ls) * 2
 
+-- symbol s's word, in ascending order within its length
 unfoldable pub wordUp : (ls : Lengths) (s : ℕ) → ℕ
 wordUp ls s = firstUp ls (lengthOf ls s) + count (lengthOf ls s) (take s ls)
 
@@ -165,6 +167,7 @@ shortestFirst = rules (byWords wordUp) samplesOf itself swapped
 
 -- ---- "Taking an unfilled slot for symbol 0."
 
+-- the slot has m bits, so it is taken for a word of as many
 unfoldable pub filled : (m : ℕ) (found : Found) → Found
 filled m NoWord = Word m 0
 filled m (Word l s) = Word l s
@@ -195,6 +198,7 @@ ignoresFields = rules wordAt oneField itself swapped
 
 -- ---- "Giving B first in the output."
 
+-- the wire's order, B first, is kept
 abbrev pub wireOrder : (rgb : Bool) (b : ℕ) → ℕ
 wireOrder rgb b = b
 

@@ -54,6 +54,8 @@ WORDS = {
     "picture": "laws of the entries: planes filled slice by slice; where the lengths come in",
     "decode8": "document 01's entry: checks, every slice into its place, memory left",
     "decode16": "document 01's entry: checks, every slice into its place, memory left",
+    "places": "the picture by row and column",
+    "wrong": "document 01's wrong decoders against the statements",
     "demands": "the three demands, of every function that a host can call",
     "alone": "a table and a reading by themselves",
     "magicyuv": "the host's boundary: numbers and slices in, three numbers out",

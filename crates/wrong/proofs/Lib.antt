@@ -1,0 +1,3 @@
+pub mod Shown
+pub mod Wrong
+pub mod Right

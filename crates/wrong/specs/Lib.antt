@@ -1,0 +1,5 @@
+pub mod Calls
+pub mod Rules
+pub mod Behaviours
+pub mod Frames
+pub mod Wrong

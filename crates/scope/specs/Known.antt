@@ -7,7 +7,7 @@ use Prim.Native.Nat.{ℕ, zero, suc, _+_, _-_, _*_, _<_}
 use Prim.Native.String.{String}
 use mathlib.Core.Bool.{Bool, true, false, cond, _&&_}
 use mathlib.Core.List.{List, [], _∷_, _++_}
-use lib.ListN.{length, take, set, replicate}
+use lib.ListN.{length, take, drop, set, replicate}
 use lib.Dec.{T, eqb, leb→le}
 use Rattle.scope.specs.Base.{Bytes, Lengths, Samples, halfUp, overUp, one, count, sumBelow, listFrom, listBelow, grown}
 use Rattle.scope.specs.Refusals.{numberOf, placeOf, kindNumber, placeNumber, rowsOfEach, leftBy}
@@ -258,16 +258,21 @@ tables =
     ∷ ("a slot of the first part: a head, a short word, none" of firstPart (13 ∷ 13 ∷ 13 ∷ 2 ∷ []) 12 1 ∷ firstPart (13 ∷ 13 ∷ 13 ∷ 2 ∷ []) 12 1024 ∷ firstPart (13 ∷ 13 ∷ 13 ∷ 2 ∷ []) 12 2 ∷ [] is 255 ∷ 770 ∷ 0 ∷ [])
     ∷ []
 
--- the same with a second part: 13,13,13,2 has the words 0, 1 and 2 of thirteen bits in two heads, and 01
+-- 13,13,13,2 has the words 0, 1 and 2 of thirteen bits in two heads, and 01: these are the words that its table holds
+unfoldable pub twoParts : List ℕ
+twoParts = 255 ∷ 255 ∷ (replicate 1022 0 ++ (replicate 1024 770 ++ (replicate 2048 0 ++ (13 ∷ 269 ∷ 525 ∷ 0 ∷ []))))
+
 unfoldable pub secondPart : List Known
 secondPart =
-    ("the lookup in the second part, in each head" of found (lookupIn (tableOf (13 ∷ 13 ∷ 13 ∷ 2 ∷ [])) 13 (0x00 ∷ 0x08 ∷ []) 0) ++ found (lookupIn (tableOf (13 ∷ 13 ∷ 13 ∷ 2 ∷ [])) 13 (0x00 ∷ 0x10 ∷ []) 0) is 13 ∷ 1 ∷ 13 ∷ 2 ∷ [])
-    ∷ ("its unfilled slot, a short word, and none" of found (lookupIn (tableOf (13 ∷ 13 ∷ 13 ∷ 2 ∷ [])) 13 (0x00 ∷ 0x18 ∷ []) 0) ++ found (lookupIn (tableOf (13 ∷ 13 ∷ 13 ∷ 2 ∷ [])) 13 (0x20 ∷ 0x80 ∷ []) 1) ++ found (lookupIn (tableOf (13 ∷ 13 ∷ 13 ∷ 2 ∷ [])) 13 (0x80 ∷ []) 0) is 2 ∷ 3 ∷ [])
+    ("13,13,13,2: the table, around its heads and in its second part" of take 3 (tableOf (13 ∷ 13 ∷ 13 ∷ 2 ∷ [])) ++ drop 4095 (tableOf (13 ∷ 13 ∷ 13 ∷ 2 ∷ [])) is 255 ∷ 255 ∷ 0 ∷ 0 ∷ 13 ∷ 269 ∷ 525 ∷ 0 ∷ [])
     ∷ []
 
-unfoldable pub wholeTable : List Known
-wholeTable =
-    ("13,13,13: the whole table" of tableOf (13 ∷ 13 ∷ 13 ∷ []) is 255 ∷ 255 ∷ (replicate 4094 0 ++ (13 ∷ 269 ∷ 525 ∷ 0 ∷ []))) ∷ []
+unfoldable pub lookups : List Known
+lookups =
+    ("in the second part, in each head" of found (lookupIn twoParts 13 (0x00 ∷ 0x08 ∷ []) 0) ++ found (lookupIn twoParts 13 (0x00 ∷ 0x10 ∷ []) 0) is 13 ∷ 1 ∷ 13 ∷ 2 ∷ [])
+    ∷ ("its unfilled slot" of found (lookupIn twoParts 13 (0x00 ∷ 0x18 ∷ []) 0) is [])
+    ∷ ("a short word, and none" of found (lookupIn twoParts 13 (0x20 ∷ 0x80 ∷ []) 1) ++ found (lookupIn twoParts 13 (0x80 ∷ []) 0) is 2 ∷ 3 ∷ [])
+    ∷ []
 
 -- ---- a table and a reading by themselves
 
@@ -667,26 +672,26 @@ codedColours =
 
 -- ---- depths 10, 12 and 14
 
--- a frame of one raw slice, by the deep entry
-unfoldable pub deepSays : ℕ → ℕ → ℕ → ℕ → ℕ → List ℕ → List ℕ
-deepSays depth lengths w h kind bytes =
-    let g : Geometry = shape Gray w h h 1 1 depth false in
-    let frame : List ℕ = frameOf (1 ∷ 0 ∷ []) ((1 ∷ kind ∷ bytes) ∷ []) in
-    said (answerOf Deep frame g (replicate lengths 0) (w * h) 1)
-    ++ planesAfter Deep frame g (replicate lengths 0) (replicate (w * h) 9) 1
+-- what the deep entry leaves in the planes, which held 9 everywhere, for a frame of one raw slice; and what it says
+unfoldable pub deepFrame : ℕ → List ℕ → List ℕ
+deepFrame kind bytes = frameOf (1 ∷ 0 ∷ []) ((1 ∷ kind ∷ bytes) ∷ [])
+
+unfoldable pub deepPlanes : ℕ → ℕ → ℕ → ℕ → ℕ → List ℕ → List ℕ
+deepPlanes depth lengths w h kind bytes =
+    planesAfter Deep (deepFrame kind bytes) (shape Gray w h h 1 1 depth false) (replicate lengths 0) (replicate (w * h) 9) 1
 
 unfoldable pub ten : List Known
 ten =
-    ("depth 10: residues 1023 and 1" of deepSays 10 1024 2 1 1 (0xFF ∷ 0xC0 ∷ 0x10 ∷ []) is done ++ (1023 ∷ 0 ∷ []))
-    ∷ ("one byte too few" of deepSays 10 1024 2 1 1 (0xFF ∷ 0xC0 ∷ []) is atSlice 12 0 ++ (0 ∷ 0 ∷ []))
-    ∷ ("left 200, top 100, top-left 10" of deepSays 10 1024 2 2 3 (0x02 ∷ 0x85 ∷ 0xA2 ∷ 0xF8 ∷ 0x00 ∷ []) is done ++ (10 ∷ 100 ∷ 200 ∷ 200 ∷ []))
+    ("depth 10: residues 1023 and 1" of deepPlanes 10 1024 2 1 1 (0xFF ∷ 0xC0 ∷ 0x10 ∷ []) is 1023 ∷ 0 ∷ [])
+    ∷ ("one byte too few" of said (answerOf Deep (deepFrame 1 (0xFF ∷ 0xC0 ∷ [])) (shape Gray 2 1 1 1 1 10 false) (replicate 1024 0) 2 1) is atSlice 12 0)
+    ∷ ("left 200, top 100, top-left 10" of deepPlanes 10 1024 2 2 3 (0x02 ∷ 0x85 ∷ 0xA2 ∷ 0xF8 ∷ 0x00 ∷ []) is 10 ∷ 100 ∷ 200 ∷ 200 ∷ [])
     ∷ []
 
 unfoldable pub twelve : List Known
-twelve = ("depth 12: ABC and DEF, then a byte left over" of deepSays 12 4096 2 1 1 (0xAB ∷ 0xCD ∷ 0xEF ∷ 0xFF ∷ []) is done ++ (0xABC ∷ 0x8AB ∷ [])) ∷ []
+twelve = ("depth 12: ABC and DEF, then a byte left over" of deepPlanes 12 4096 2 1 1 (0xAB ∷ 0xCD ∷ 0xEF ∷ 0xFF ∷ []) is 0xABC ∷ 0x8AB ∷ []) ∷ []
 
 unfoldable pub fourteen : List Known
-fourteen = ("depth 14: 16,383 and 1" of deepSays 14 16384 2 1 1 (0xFF ∷ 0xFC ∷ 0x00 ∷ 0x10 ∷ []) is done ++ (16383 ∷ 0 ∷ [])) ∷ []
+fourteen = ("depth 14: 16,383 and 1" of deepPlanes 14 16384 2 1 1 (0xFF ∷ 0xFC ∷ 0x00 ∷ 0x10 ∷ []) is 16383 ∷ 0 ∷ []) ∷ []
 
 -- * B'=1020, G=10 at depth 10: B=6, here in a frame
 unfoldable pub deepColours : List Known
@@ -714,15 +719,16 @@ smallWords =
 
 unfoldable pub known : List (List Known)
 known =
-    words ∷ sums ∷ reading ∷ needs ∷ longNeed ∷ twoHeads ∷ tables ∷ secondPart ∷ wholeTable
-    ∷ built ∷ lengthsCap ∷ readAlone
+    words ∷ sums ∷ reading ∷ needs ∷ tables ∷ lookups
+    ∷ built ∷ readAlone
     ∷ slices ∷ predictors ∷ raws
     ∷ rules ∷ multiples ∷ amounts
     ∷ figures ∷ places ∷ wholeFrame ∷ far
     ∷ order ∷ preambles ∷ indices ∷ lengths ∷ bounds ∷ sizes ∷ readings ∷ stuck ∷ stuckLeaves
     ∷ grays ∷ rgba ∷ yuva ∷ yuv ∷ cut ∷ coded ∷ codedColours
-    ∷ ten ∷ twelve ∷ fourteen ∷ deepColours
-    ∷ smallWords
+    ∷ ten ∷ deepColours ∷ smallWords
+    -- those with long lists come last
+    ∷ lengthsCap ∷ longNeed ∷ twoHeads ∷ secondPart ∷ twelve ∷ fourteen
     ∷ []
 
 -- one tt a group; the error at a wrong row says `Wrong` and the row's name
@@ -737,7 +743,7 @@ unfolding count sumBelow listFrom grown rowsOfEach leftBy
     needOfAll fewestBytes residuesOf sliceSamples planeUpTo wirePlane coloured planesUpTo pictureOf table answerOf planesAfter workspaceAfter
     buildAnswer workspaceBuilt readAnswer samplesRead workspaceRead
     wordsBelow wordsOf found read said each shape plain code codes wordless le entries joined frameOf answer8 decode decode8 decode16 lent8 lent16
-    tiny tinySays colours coloursSay four deepSays listed
-    words sums reading needs longNeed twoHeads tables secondPart wholeTable built lengthsCap readAlone slices predictors raws rules multiples amounts figures places wholeFrame far order preambles indices lengths bounds sizes readings stuck stuckLeaves grays rgba yuva yuv cut coded codedColours ten twelve fourteen deepColours smallWords known
+    twoParts tiny tinySays colours coloursSay four deepFrame deepPlanes listed
+    words sums reading needs longNeed twoHeads tables secondPart lookups built lengthsCap readAlone slices predictors raws rules multiples amounts figures places wholeFrame far order preambles indices lengths bounds sizes readings stuck stuckLeaves grays rgba yuva yuv cut coded codedColours ten twelve fourteen deepColours smallWords known
 known-answers =
     (tt, (tt, (tt, (tt, (tt, (tt, (tt, (tt, (tt, (tt, (tt, (tt, (tt, (tt, (tt, (tt, (tt, (tt, (tt, (tt, (tt, (tt, (tt, (tt, (tt, (tt, (tt, (tt, (tt, (tt, (tt, (tt, (tt, (tt, (tt, (tt, (tt, (tt, (tt, (tt, (tt, (tt, (tt, tt)))))))))))))))))))))))))))))))))))))))))))

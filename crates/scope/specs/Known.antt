@@ -8,13 +8,14 @@ use Prim.Native.String.{String}
 use mathlib.Core.Bool.{Bool, true, false, cond, _&&_}
 use mathlib.Core.List.{List, [], _∷_, _++_}
 use lib.ListN.{length, take, drop, set, replicate}
-use lib.Dec.{T, eqb, leb→le}
+use native.Mathlib.Omega.{arith}
+use lib.Dec.{T, eqb, ltb, leb→le}
 use Rattle.scope.specs.Base.{Bytes, Lengths, Samples, halfUp, overUp, one, count, sumBelow, listFrom, listBelow, grown}
-use Rattle.scope.specs.Refusals.{numberOf, placeOf, kindNumber, placeNumber, rowsOfEach, leftBy}
+use Rattle.scope.specs.Refusals.{numberOf, placeOf, kindNumber, placeNumber, refuseIf, _andThen_, rowsOfEach, leftBy}
 use Rattle.scope.specs.Geometry.{sizeFits, factorFits, geometryFits, factorsDivide, sliceHeightDivides, slicesPerPlane, sliceCount, small, planeWidth, planeHeight, planeSliceHeight, firstRow, rowsAt, planeSamples, allSamples, lengthsOf, fields, swapped, orderOf, planeStart, rowStart}
 use Rattle.scope.specs.Layout.{le32, entry, preambleStart, preambleEnd, countByte, planeIndex, namedBefore, placeInPlane, sliceStart, sliceEnd, isRaw, predictorOf, payloadOf, samplesIn, sliceAt}
 use Rattle.scope.specs.Bits.{bitAt, window, packedFrom, rawSamples}
-use Rattle.scope.specs.Words.{lengthOf, longest, shorter, shortest, tooLong, share, shares, overfull, startDown, first, wordOf, isHead, headBelow, heads, needFrom, need, beginsWith, wordBelow, wordAt, Chain, symbols, stuckAt, _before_, onWord, chainBy, chain, symbolsOf, Begins, Spells}
+use Rattle.scope.specs.Words.{lengthOf, longest, shorter, shortest, tooLong, share, shares, overfull, startDown, first, wordOf, isHead, headBelow, heads, needFrom, need, beginsWith, wordBelow, wordAt, Chain, symbols, stuckAt, _before_, onWord, chainBy, chain, isStuck, symbolsOf, Begins, Spells}
 use Rattle.scope.specs.Lookup.{packed, unpacked, beginsIn, wordIn, firstPart, slots, tableOf, lookupIn}
 use Rattle.scope.specs.Prediction.{gradient, clampMedian, t87Median, median, predictor, prediction, sample, samplesOf, plus}
 use Rattle.scope.specs.Frame.{needOfAll, fewestBytes, residuesOf, sliceSamples, planeUpTo, wirePlane, coloured, planesUpTo, pictureOf, table, answerOf, planesAfter, workspaceAfter}
@@ -27,7 +28,7 @@ use Rattle.scope.specs.declared.Geometry.{Geometry}
 use Rattle.scope.specs.declared.SliceAt.{SliceAt}
 use Rattle.scope.specs.declared.Found.{Found}
 use Rattle.scope.specs.declared.Found.the-variants.{Word, NoWord}
-use Rattle.scope.specs.declared.Place.the-variants.{Nothing}
+use Rattle.scope.specs.declared.Place.the-variants.{Plane, Nothing}
 use Rattle.scope.specs.declared.Answer.{Answer}
 use Rattle.scope.specs.declared.Answer.the-variants.{Refused}
 
@@ -747,3 +748,39 @@ unfolding count sumBelow listFrom grown rowsOfEach leftBy
     words sums reading needs longNeed twoHeads tables secondPart lookups built lengthsCap readAlone slices predictors raws rules multiples amounts figures places wholeFrame far order preambles indices lengths bounds sizes readings stuck stuckLeaves grays rgba yuva yuv cut coded codedColours ten twelve fourteen deepColours smallWords known
 known-answers =
     (tt, (tt, (tt, (tt, (tt, (tt, (tt, (tt, (tt, (tt, (tt, (tt, (tt, (tt, (tt, (tt, (tt, (tt, (tt, (tt, (tt, (tt, (tt, (tt, (tt, (tt, (tt, (tt, (tt, (tt, (tt, (tt, (tt, (tt, (tt, (tt, (tt, (tt, (tt, (tt, (tt, (tt, (tt, tt)))))))))))))))))))))))))))))))))))))))))))
+
+-- ---- laws, for what takes lists too long to compute
+
+-- "4 also for more than 268,435,456 samples", whatever the lengths, the payload and the workspace
+pub too-many-samples : (ls : Lengths) (payload : Bytes) (workspaceLen : ℕ) → readAnswer ls payload 268435457 workspaceLen ≡ Refused 4 Nothing
+unfolding readAnswer
+too-many-samples ls payload workspaceLen = refl
+
+-- and not for that many, unless by the lengths
+not-four : (long over short stuck : Bool) → numberOf (refuseIf long 9 (Plane 0) andThen refuseIf over 10 (Plane 0) andThen refuseIf short 11 Nothing andThen refuseIf stuck 14 (Plane 0)) ≡ 4 → ⊥
+not-four true over short stuck h = omega (arith, h)
+not-four false true short stuck h = omega (arith, h)
+not-four false false true stuck h = omega (arith, h)
+not-four false false false true h = omega (arith, h)
+not-four false false false false h = omega (arith, h)
+
+pub as-many-samples : (ls : Lengths) (payload : Bytes) (workspaceLen : ℕ) → ltb 16384 (length ls) ≡ false → numberOf (readAnswer ls payload 268435456 workspaceLen) ≡ 4 → ⊥
+unfolding readAnswer
+as-many-samples ls payload workspaceLen few =
+    rw few (not-four (tooLong ls) (overfull ls) (ltb workspaceLen (need ls)) (isStuck (chain ls payload 0 268435456)))
+
+-- S counts the first twelve bits from 0 to 4,095: words of 13 bits reach the last of them where there are more than 8,190
+pub last-head : (ls : Lengths) → heads ls ≡ sumBelow 4095 (λ x. one (headBelow ls x (length ls))) + one (headBelow ls 4095 (length ls))
+unfolding heads sumBelow
+last-head ls = refl
+
+-- the same words by `Spells`, in which demand 3 is put: 8C under 1,2,2 spells 0, 1, 2, 0
+begins : (ls : Lengths) (payload : Bytes) (at s : ℕ) → T (ltb s (length ls)) → T (ltb 0 (lengthOf ls s)) → window payload at (lengthOf ls s) ≡ wordOf ls s → Begins ls payload at s
+begins ls payload at s i l e =
+    record { inside = leb→le (suc s) (length ls) i; some = leb→le 1 (lengthOf ls s) l; same = e }
+
+pub spelled : Spells (1 ∷ 2 ∷ 2 ∷ []) (0x8C ∷ []) 0 (0 ∷ 1 ∷ 2 ∷ 0 ∷ [])
+unfolding Spells window bitAt longest startDown count first wordOf
+spelled =
+    let one-more : (at s : ℕ) → T (ltb s 3) → T (ltb 0 (lengthOf (1 ∷ 2 ∷ 2 ∷ []) s)) → window (0x8C ∷ []) at (lengthOf (1 ∷ 2 ∷ 2 ∷ []) s) ≡ wordOf (1 ∷ 2 ∷ 2 ∷ []) s → Begins (1 ∷ 2 ∷ 2 ∷ []) (0x8C ∷ []) at s = begins (1 ∷ 2 ∷ 2 ∷ []) (0x8C ∷ []) in
+    (one-more 0 0 tt tt refl, (one-more 1 1 tt tt refl, (one-more 3 2 tt tt refl, (one-more 5 0 tt tt refl, tt))))

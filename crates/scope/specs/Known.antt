@@ -168,13 +168,13 @@ decode8 = decode Eight
 unfoldable pub decode16 : List ℕ → Geometry → List ℕ → ℕ → ℕ → List ℕ
 decode16 = decode Deep
 
--- Only a geometry is lent, with n planes' lengths and a plane buffer of m samples, and an empty frame: the number of a refusal
--- from 1 to 4, or 5 where those pass.
+-- Only a geometry is lent, with an empty frame, the lengths of n planes (at the deep entry n lengths) and a plane buffer of m
+-- samples: the number of a refusal from 1 to 4, or 5 where those pass.
 unfoldable pub lent8 : Geometry → ℕ → ℕ → ℕ
 lent8 g n m = numberOf (answerOf Eight [] g (wordless n) m 0)
 
-unfoldable pub lent16 : Geometry → ℕ
-lent16 g = numberOf (answerOf Deep [] g [] 0 0)
+unfoldable pub lent16 : Geometry → ℕ → ℕ → ℕ
+lent16 g n m = numberOf (answerOf Deep [] g (replicate n 0) m 0)
 
 -- ---- words and tables
 
@@ -265,7 +265,7 @@ twoParts = 255 ∷ 255 ∷ (replicate 1022 0 ++ (replicate 1024 770 ++ (replicat
 
 unfoldable pub secondPart : List Known
 secondPart =
-    ("13,13,13,2: the table, around its heads and in its second part" of take 3 (tableOf (13 ∷ 13 ∷ 13 ∷ 2 ∷ [])) ++ drop 4095 (tableOf (13 ∷ 13 ∷ 13 ∷ 2 ∷ [])) is 255 ∷ 255 ∷ 0 ∷ 0 ∷ 13 ∷ 269 ∷ 525 ∷ 0 ∷ [])
+    ("13,13,13: the table, around its heads and in its second part" of take 3 (tableOf (13 ∷ 13 ∷ 13 ∷ [])) ++ drop 4095 (tableOf (13 ∷ 13 ∷ 13 ∷ [])) is 255 ∷ 255 ∷ 0 ∷ 0 ∷ 13 ∷ 269 ∷ 525 ∷ 0 ∷ [])
     ∷ []
 
 unfoldable pub lookups : List Known
@@ -379,7 +379,7 @@ rules =
     ∷ ("heights" of each (λ n. lent8 (plain Gray 1 n 1) 0 0) (0 ∷ 1 ∷ 16384 ∷ 16385 ∷ []) is 1 ∷ 4 ∷ 4 ∷ 1 ∷ [])
     ∷ ("slice heights" of each (λ n. lent8 (plain Gray 1 1 n) 0 0) (0 ∷ 1 ∷ 16384 ∷ 16385 ∷ []) is 1 ∷ 4 ∷ 4 ∷ 1 ∷ [])
     ∷ ("depths 7 to 17 at the byte entry" of listFrom (λ d. lent8 (shape Gray 1 1 1 1 1 d false) 0 0) 7 11 is 1 ∷ 4 ∷ 1 ∷ 1 ∷ 1 ∷ 1 ∷ 1 ∷ 1 ∷ 1 ∷ 1 ∷ 1 ∷ [])
-    ∷ ("depths 7 to 17 at the deep entry" of listFrom (λ d. lent16 (shape Gray 1 1 1 1 1 d false)) 7 11 is 1 ∷ 1 ∷ 1 ∷ 4 ∷ 1 ∷ 4 ∷ 1 ∷ 4 ∷ 1 ∷ 1 ∷ 1 ∷ [])
+    ∷ ("depths 7 to 17 at the deep entry" of listFrom (λ d. lent16 (shape Gray 1 1 1 1 1 d false) 0 0) 7 11 is 1 ∷ 1 ∷ 1 ∷ 4 ∷ 1 ∷ 4 ∷ 1 ∷ 4 ∷ 1 ∷ 1 ∷ 1 ∷ [])
     ∷ ("Yuv: sx 0 to 3" of listFrom (λ s. lent8 (shape Yuv 2 2 2 s 1 8 false) 0 0) 0 4 is 1 ∷ 4 ∷ 4 ∷ 1 ∷ [])
     ∷ ("Yuva: sy 0 to 3" of listFrom (λ s. lent8 (shape Yuva 2 2 2 1 s 8 false) 0 0) 0 4 is 1 ∷ 4 ∷ 4 ∷ 1 ∷ [])
     ∷ ("Gray, Rgb and Rgba have no factor of 2" of lent8 (shape Gray 2 2 2 2 1 8 false) 0 0 ∷ lent8 (shape Gray 2 2 2 1 2 8 false) 0 0 ∷ lent8 (shape Rgb 2 2 2 2 1 8 false) 0 0 ∷ lent8 (shape Rgb 2 2 2 1 2 8 false) 0 0 ∷ lent8 (shape Rgba 2 2 2 2 1 8 false) 0 0 ∷ lent8 (shape Rgba 2 2 2 1 2 8 false) 0 0 ∷ [] is 1 ∷ 1 ∷ 1 ∷ 1 ∷ 1 ∷ 1 ∷ [])
@@ -412,7 +412,8 @@ amounts =
     ∷ ("Yuv 6×4 under 4:4:0: 24, 12 and 12" of each (lent8 (shape Yuv 6 4 2 1 2 8 false) 3) (47 ∷ 48 ∷ 49 ∷ []) is 4 ∷ 5 ∷ 4 ∷ [])
     ∷ ("Yuv 6×4 under 4:2:0: 24, 6 and 6" of each (lent8 (shape Yuv 6 4 2 2 2 8 false) 3) (35 ∷ 36 ∷ 37 ∷ []) is 4 ∷ 5 ∷ 4 ∷ [])
     ∷ ("one length more or less" of each (λ n. numberOf (answerOf Eight [] (plain Gray 1 1 1) (replicate n 0) 1 0)) (255 ∷ 256 ∷ 257 ∷ []) is 4 ∷ 5 ∷ 4 ∷ [])
-    ∷ ("depth 10: 1,024 lengths a plane" of each (λ n. numberOf (answerOf Deep [] (shape Gray 1 1 1 1 1 10 false) (replicate n 0) 1 0)) (1023 ∷ 1024 ∷ 1025 ∷ []) is 4 ∷ 5 ∷ 4 ∷ [])
+    ∷ ("depth 10: 1,024 lengths a plane" of each (λ n. lent16 (shape Gray 1 1 1 1 1 10 false) n 1) (1023 ∷ 1024 ∷ 1025 ∷ []) is 4 ∷ 5 ∷ 4 ∷ [])
+    ∷ ("depths 12 and 14: 4,096 and 16,384" of lent16 (shape Gray 1 1 1 1 1 12 false) 4096 1 ∷ lent16 (shape Gray 1 1 1 1 1 14 false) 16384 1 ∷ [] is 5 ∷ 5 ∷ [])
     ∷ ("4 before 5, with no place" of answer8 [] (plain Gray 1 1 1) [] 1 0 is refusal 4)
     ∷ ("1 leaves planes and workspace as found" of decode8 [] (plain Gray 0 1 1) [] 2 1 is refusal 1 ++ (9 ∷ 9 ∷ 9 ∷ []))
     ∷ ("2 leaves them as found" of decode8 [] (shape Yuv 3 2 2 2 1 8 false) [] 2 1 is refusal 2 ++ (9 ∷ 9 ∷ 9 ∷ []))
@@ -531,6 +532,7 @@ indices =
     ∷ ("plane 1 again at slice 2" of coloursSay (set colours 51 1) is atSlice 8 2)
     ∷ ("the first such slice, by index before count" of coloursSay (set (set colours 50 3) 51 1) is atSlice 8 1)
     ∷ ("by count before index" of coloursSay (set (set colours 50 1) 51 3) is atSlice 8 1)
+    ∷ ("8 leaves all zero" of decode8 (set colours 51 3) (plain Rgb 1 1 1) (wordless 3) 3 3 is atSlice 8 2 ++ replicate 6 0)
     ∷ ("8 before 9" of answer8 (set colours 51 1) (plain Rgb 1 1 1) (codes (19 ∷ []) [] []) 3 3 is atSlice 8 2)
     ∷ []
 
@@ -543,6 +545,8 @@ lengths =
     ∷ ("10 of plane 1 before 9 of plane 2" of answer8 colours (plain Rgb 1 1 1) (codes [] (1 ∷ 1 ∷ 1 ∷ []) (19 ∷ [])) 3 4 is atPlane 10 1)
     ∷ ("9 of plane 0 before 10 of plane 1" of answer8 colours (plain Rgb 1 1 1) (codes (19 ∷ []) (1 ∷ 1 ∷ 1 ∷ []) []) 3 4 is atPlane 9 0)
     ∷ ("10 before 11" of answer8 colours (plain Rgb 1 1 1) (codes [] [] (1 ∷ 1 ∷ 1 ∷ [])) 3 0 is atPlane 10 2)
+    ∷ ("9 leaves all zero" of decode8 colours (plain Rgb 1 1 1) (codes [] [] (19 ∷ [])) 3 1 is atPlane 9 2 ++ replicate 4 0)
+    ∷ ("10 leaves all zero" of decode8 colours (plain Rgb 1 1 1) (codes [] (1 ∷ 1 ∷ 1 ∷ []) []) 3 1 is atPlane 10 1 ++ replicate 4 0)
     ∷ ("needs 1, 4 and 2: a workspace of 7" of answer8 colours (plain Rgb 1 1 1) (codes [] (1 ∷ 2 ∷ 2 ∷ []) (1 ∷ 1 ∷ [])) 3 7 is done)
     ∷ ("and of 6: 11" of answer8 colours (plain Rgb 1 1 1) (codes [] (1 ∷ 2 ∷ 2 ∷ []) (1 ∷ 1 ∷ [])) 3 6 is refusal 11)
     ∷ ("11 leaves all zero" of decode8 colours (plain Rgb 1 1 1) (wordless 3) 3 2 is refusal 11 ++ (0 ∷ 0 ∷ 0 ∷ 0 ∷ 0 ∷ []))
@@ -555,15 +559,18 @@ bounds =
     ("12: slice 1 ends before its start" of coloursSay (set colours 44 22) is atSlice 12 1)
     ∷ ("12: slice 1 ends past the frame" of coloursSay (set colours 44 30) is atSlice 12 1)
     ∷ ("12 by bounds before 13: slice 1 has a byte, past the frame" of coloursSay (set (set colours 40 29) 44 30) is atSlice 12 1)
+    ∷ ("bytes 1, 2 and 3 of its end count" of coloursSay (set colours 45 1) ++ coloursSay (set colours 46 1) ++ coloursSay (set colours 47 1) is atSlice 12 1 ++ atSlice 12 1 ++ atSlice 12 1)
     ∷ ("13: slice 1 is empty" of coloursSay (set colours 44 23) is atSlice 13 1)
     ∷ ("13: slice 1 has one byte" of coloursSay (set colours 44 24) is atSlice 13 1)
     ∷ ("two bytes: no longer 13, but 12 by size" of coloursSay (set colours 44 25) is atSlice 12 1)
     ∷ ("13 at the last slice, which starts at the frame's end" of coloursSay (set colours 44 29) is atSlice 13 2)
     ∷ ("12 by size at slice 2" of coloursSay (take 60 colours) is atSlice 12 2)
+    ∷ ("13 leaves all zero" of decode8 (take 59 colours) (plain Rgb 1 1 1) (wordless 3) 3 3 is atSlice 13 2 ++ replicate 6 0)
     ∷ ("12 leaves all zero" of decode8 (take 60 colours) (plain Rgb 1 1 1) (wordless 3) 3 3 is atSlice 12 2 ++ replicate 6 0)
     ∷ ("14: slice 1 is coded, and its plane has no word" of coloursSay (set colours 55 0) is atPlane 14 2)
     ∷ ("flag 2 is coded" of coloursSay (set colours 55 2) is atPlane 14 2)
     ∷ ("flag 3 is raw" of coloursSay (set colours 55 3) is done)
+    ∷ ("14 where the wordless slice has no byte after its prefix" of coloursSay (set (set colours 55 0) 44 25) is atPlane 14 2)
     ∷ ("13 before 14" of coloursSay (set (set colours 55 0) 44 24) is atSlice 13 1)
     ∷ ("slices in wire order: 14 of slice 0 before 12 of slice 1" of coloursSay (set (set colours 52 0) 44 22) is atPlane 14 1)
     ∷ ("12 by size of slice 0 before 12 by bounds of slice 1" of coloursSay (set (set colours 40 22) 44 30) is atSlice 12 0)
@@ -691,8 +698,10 @@ ten =
 unfoldable pub twelve : List Known
 twelve = ("depth 12: ABC and DEF, then a byte left over" of deepPlanes 12 4096 2 1 1 (0xAB ∷ 0xCD ∷ 0xEF ∷ 0xFF ∷ []) is 0xABC ∷ 0x8AB ∷ []) ∷ []
 
+-- The picture alone, since 16,384 lengths are long to look through; that they pass stands in `amounts`.
 unfoldable pub fourteen : List Known
-fourteen = ("depth 14: 16,383 and 1" of deepPlanes 14 16384 2 1 1 (0xFF ∷ 0xFC ∷ 0x00 ∷ 0x10 ∷ []) is 16383 ∷ 0 ∷ []) ∷ []
+fourteen =
+    ("depth 14: 16,383 and 1" of pictureOf (deepFrame 1 (0xFF ∷ 0xFC ∷ 0x00 ∷ 0x10 ∷ [])) (shape Gray 2 1 1 1 1 14 false) [] is 16383 ∷ 0 ∷ []) ∷ []
 
 -- * B'=1020, G=10 at depth 10: B=6, here in a frame
 unfoldable pub deepColours : List Known

@@ -119,9 +119,10 @@ shape family w h sh sx sy depth two =
 unfoldable pub plain : Family → ℕ → ℕ → ℕ → Geometry
 plain family w h sh = shape family w h sh 1 1 8 false
 
--- the lengths of a plane of depth 8: those given, and no word for the other symbols
+-- The lengths of a plane of depth 8: no word, but for the last symbols those given. The definitions try the last symbol first, so
+-- this is soon computed.
 unfoldable pub code : List ℕ → List ℕ
-code ls = ls ++ replicate (256 - length ls) 0
+code ls = replicate (256 - length ls) 0 ++ ls
 
 -- the lengths of three planes, and of n planes without a word
 unfoldable pub codes : List ℕ → List ℕ → List ℕ → List ℕ
@@ -300,12 +301,14 @@ built =
     ∷ []
 
 -- the cap on both sides; a length of 19 shows which check comes first
-unfoldable pub lengthsCap : List Known
-lengthsCap =
+unfoldable pub tooManyLengths : List Known
+tooManyLengths =
     ("16,385 lengths: 4, before 9" of said (buildAnswer (19 ∷ replicate 16384 0) 1) is refusal 4)
-    ∷ ("16,384 lengths: not 4" of said (buildAnswer (19 ∷ replicate 16383 0) 1) is atPlane 9 0)
     ∷ ("4 leaves the workspace as found" of workspaceBuilt (replicate 16385 0) (9 ∷ []) is 9 ∷ [])
     ∷ []
+
+unfoldable pub asManyLengths : List Known
+asManyLengths = ("16,384 lengths: not 4" of said (buildAnswer (19 ∷ replicate 16383 0) 1) is atPlane 9 0) ∷ []
 
 -- "A reading by itself .. builds first, with those refusals, and 4 also for more than 268,435,456 samples .., all of which leave
 -- buffer and workspace as found; then it reads, with no slice checks. A failed word gives 14 (plane 0 ..) and leaves both wholly
@@ -411,11 +414,20 @@ amounts =
     ∷ ("Yuva 6×4 under 4:2:2: 24, 12, 12 and 24 samples" of each (lent8 (shape Yuva 6 4 2 2 1 8 false) 4) (71 ∷ 72 ∷ 73 ∷ []) is 4 ∷ 5 ∷ 4 ∷ [])
     ∷ ("Yuv 6×4 under 4:4:0: 24, 12 and 12" of each (lent8 (shape Yuv 6 4 2 1 2 8 false) 3) (47 ∷ 48 ∷ 49 ∷ []) is 4 ∷ 5 ∷ 4 ∷ [])
     ∷ ("Yuv 6×4 under 4:2:0: 24, 6 and 6" of each (lent8 (shape Yuv 6 4 2 2 2 8 false) 3) (35 ∷ 36 ∷ 37 ∷ []) is 4 ∷ 5 ∷ 4 ∷ [])
-    ∷ ("one length more or less" of each (λ n. numberOf (answerOf Eight [] (plain Gray 1 1 1) (replicate n 0) 1 0)) (255 ∷ 256 ∷ 257 ∷ []) is 4 ∷ 5 ∷ 4 ∷ [])
+    ∷ ("4 before 5, with no place" of answer8 [] (plain Gray 1 1 1) [] 1 0 is refusal 4)
+    ∷ []
+
+unfoldable pub lengthAmounts : List Known
+lengthAmounts =
+    ("one length more or less" of each (λ n. numberOf (answerOf Eight [] (plain Gray 1 1 1) (replicate n 0) 1 0)) (255 ∷ 256 ∷ 257 ∷ []) is 4 ∷ 5 ∷ 4 ∷ [])
     ∷ ("depth 10: 1,024 lengths a plane" of each (λ n. lent16 (shape Gray 1 1 1 1 1 10 false) n 1) (1023 ∷ 1024 ∷ 1025 ∷ []) is 4 ∷ 5 ∷ 4 ∷ [])
     ∷ ("depths 12 and 14: 4,096 and 16,384" of lent16 (shape Gray 1 1 1 1 1 12 false) 4096 1 ∷ lent16 (shape Gray 1 1 1 1 1 14 false) 16384 1 ∷ [] is 5 ∷ 5 ∷ [])
-    ∷ ("4 before 5, with no place" of answer8 [] (plain Gray 1 1 1) [] 1 0 is refusal 4)
-    ∷ ("1 leaves planes and workspace as found" of decode8 [] (plain Gray 0 1 1) [] 2 1 is refusal 1 ++ (9 ∷ 9 ∷ 9 ∷ []))
+    ∷ []
+
+-- "Refusals 1 to 4 leave planes and workspace as found. All others leave both wholly zero.": these held 9
+unfoldable pub leaves : List Known
+leaves =
+    ("1 leaves planes and workspace as found" of decode8 [] (plain Gray 0 1 1) [] 2 1 is refusal 1 ++ (9 ∷ 9 ∷ 9 ∷ []))
     ∷ ("2 leaves them as found" of decode8 [] (shape Yuv 3 2 2 2 1 8 false) [] 2 1 is refusal 2 ++ (9 ∷ 9 ∷ 9 ∷ []))
     ∷ ("3 leaves them as found" of decode8 [] (shape Yuv 2 4 3 1 2 8 false) [] 2 1 is refusal 3 ++ (9 ∷ 9 ∷ 9 ∷ []))
     ∷ ("4 leaves them as found" of decode8 [] (plain Gray 1 1 1) [] 2 1 is refusal 4 ++ (9 ∷ 9 ∷ 9 ∷ []))
@@ -536,7 +548,7 @@ indices =
     ∷ ("8 before 9" of answer8 (set colours 51 1) (plain Rgb 1 1 1) (codes (19 ∷ []) [] []) 3 3 is atSlice 8 2)
     ∷ []
 
--- 9 to 11: "Refusals 9 and 10 go plane by plane, 9 first in each."; "workspace shorter than the sum of all planes' needs"
+-- 9 and 10: "Refusals 9 and 10 go plane by plane, 9 first in each."
 unfoldable pub lengths : List Known
 lengths =
     ("9 at plane 2" of answer8 colours (plain Rgb 1 1 1) (codes [] [] (18 ∷ 19 ∷ [])) 3 3 is atPlane 9 2)
@@ -545,13 +557,25 @@ lengths =
     ∷ ("10 of plane 1 before 9 of plane 2" of answer8 colours (plain Rgb 1 1 1) (codes [] (1 ∷ 1 ∷ 1 ∷ []) (19 ∷ [])) 3 4 is atPlane 10 1)
     ∷ ("9 of plane 0 before 10 of plane 1" of answer8 colours (plain Rgb 1 1 1) (codes (19 ∷ []) (1 ∷ 1 ∷ 1 ∷ []) []) 3 4 is atPlane 9 0)
     ∷ ("10 before 11" of answer8 colours (plain Rgb 1 1 1) (codes [] [] (1 ∷ 1 ∷ 1 ∷ [])) 3 0 is atPlane 10 2)
-    ∷ ("9 leaves all zero" of decode8 colours (plain Rgb 1 1 1) (codes [] [] (19 ∷ [])) 3 1 is atPlane 9 2 ++ replicate 4 0)
+    ∷ []
+
+unfoldable pub lengthsLeave : List Known
+lengthsLeave =
+    ("9 leaves all zero" of decode8 colours (plain Rgb 1 1 1) (codes [] [] (19 ∷ [])) 3 1 is atPlane 9 2 ++ replicate 4 0)
     ∷ ("10 leaves all zero" of decode8 colours (plain Rgb 1 1 1) (codes [] (1 ∷ 1 ∷ 1 ∷ []) []) 3 1 is atPlane 10 1 ++ replicate 4 0)
-    ∷ ("needs 1, 4 and 2: a workspace of 7" of answer8 colours (plain Rgb 1 1 1) (codes [] (1 ∷ 2 ∷ 2 ∷ []) (1 ∷ 1 ∷ [])) 3 7 is done)
+    ∷ []
+
+-- 11: "workspace shorter than the sum of all planes' needs"
+unfoldable pub room : List Known
+room =
+    ("needs 1, 4 and 2: a workspace of 7" of answer8 colours (plain Rgb 1 1 1) (codes [] (1 ∷ 2 ∷ 2 ∷ []) (1 ∷ 1 ∷ [])) 3 7 is done)
     ∷ ("and of 6: 11" of answer8 colours (plain Rgb 1 1 1) (codes [] (1 ∷ 2 ∷ 2 ∷ []) (1 ∷ 1 ∷ [])) 3 6 is refusal 11)
-    ∷ ("11 leaves all zero" of decode8 colours (plain Rgb 1 1 1) (wordless 3) 3 2 is refusal 11 ++ (0 ∷ 0 ∷ 0 ∷ 0 ∷ 0 ∷ []))
     ∷ ("11 before 12" of answer8 (take 60 colours) (plain Rgb 1 1 1) (wordless 3) 3 2 is refusal 11)
     ∷ []
+
+unfoldable pub roomLeaves : List Known
+roomLeaves =
+    ("11 leaves all zero" of decode8 colours (plain Rgb 1 1 1) (wordless 3) 3 2 is refusal 11 ++ (0 ∷ 0 ∷ 0 ∷ 0 ∷ 0 ∷ [])) ∷ []
 
 -- 12, 13 and 14: "Then every slice in wire order: bounds (12), 13, wordless plane (14), size (12)."
 unfoldable pub bounds : List Known
@@ -559,55 +583,89 @@ bounds =
     ("12: slice 1 ends before its start" of coloursSay (set colours 44 22) is atSlice 12 1)
     ∷ ("12: slice 1 ends past the frame" of coloursSay (set colours 44 30) is atSlice 12 1)
     ∷ ("12 by bounds before 13: slice 1 has a byte, past the frame" of coloursSay (set (set colours 40 29) 44 30) is atSlice 12 1)
-    ∷ ("bytes 1, 2 and 3 of its end count" of coloursSay (set colours 45 1) ++ coloursSay (set colours 46 1) ++ coloursSay (set colours 47 1) is atSlice 12 1 ++ atSlice 12 1 ++ atSlice 12 1)
-    ∷ ("13: slice 1 is empty" of coloursSay (set colours 44 23) is atSlice 13 1)
+    ∷ ("12 by size of slice 0 before 12 by bounds of slice 1" of coloursSay (set (set colours 40 22) 44 30) is atSlice 12 0)
+    ∷ []
+
+unfoldable pub entryBytes : List Known
+entryBytes =
+    ("byte 1 of slice 1's end counts" of coloursSay (set colours 45 1) is atSlice 12 1)
+    ∷ ("byte 2 does" of coloursSay (set colours 46 1) is atSlice 12 1)
+    ∷ ("byte 3 does" of coloursSay (set colours 47 1) is atSlice 12 1)
+    ∷ []
+
+unfoldable pub short : List Known
+short =
+    ("13: slice 1 is empty" of coloursSay (set colours 44 23) is atSlice 13 1)
     ∷ ("13: slice 1 has one byte" of coloursSay (set colours 44 24) is atSlice 13 1)
     ∷ ("two bytes: no longer 13, but 12 by size" of coloursSay (set colours 44 25) is atSlice 12 1)
     ∷ ("13 at the last slice, which starts at the frame's end" of coloursSay (set colours 44 29) is atSlice 13 2)
     ∷ ("12 by size at slice 2" of coloursSay (take 60 colours) is atSlice 12 2)
-    ∷ ("13 leaves all zero" of decode8 (take 59 colours) (plain Rgb 1 1 1) (wordless 3) 3 3 is atSlice 13 2 ++ replicate 6 0)
+    ∷ []
+
+unfoldable pub shortLeaves : List Known
+shortLeaves =
+    ("13 leaves all zero" of decode8 (take 59 colours) (plain Rgb 1 1 1) (wordless 3) 3 3 is atSlice 13 2 ++ replicate 6 0)
     ∷ ("12 leaves all zero" of decode8 (take 60 colours) (plain Rgb 1 1 1) (wordless 3) 3 3 is atSlice 12 2 ++ replicate 6 0)
-    ∷ ("14: slice 1 is coded, and its plane has no word" of coloursSay (set colours 55 0) is atPlane 14 2)
+    ∷ []
+
+unfoldable pub flags : List Known
+flags =
+    ("14: slice 1 is coded, and its plane has no word" of coloursSay (set colours 55 0) is atPlane 14 2)
     ∷ ("flag 2 is coded" of coloursSay (set colours 55 2) is atPlane 14 2)
     ∷ ("flag 3 is raw" of coloursSay (set colours 55 3) is done)
     ∷ ("14 where the wordless slice has no byte after its prefix" of coloursSay (set (set colours 55 0) 44 25) is atPlane 14 2)
-    ∷ ("13 before 14" of coloursSay (set (set colours 55 0) 44 24) is atSlice 13 1)
+    ∷ []
+
+unfoldable pub wireOrder : List Known
+wireOrder =
+    ("13 before 14" of coloursSay (set (set colours 55 0) 44 24) is atSlice 13 1)
     ∷ ("slices in wire order: 14 of slice 0 before 12 of slice 1" of coloursSay (set (set colours 52 0) 44 22) is atPlane 14 1)
-    ∷ ("12 by size of slice 0 before 12 by bounds of slice 1" of coloursSay (set (set colours 40 22) 44 30) is atSlice 12 0)
     ∷ []
 
 -- 12 by size: "fewer bytes after the prefix than samples times b, over 8, rounded up; b is the depth for raw, else the plane's
--- shortest word". Gray 9×1 and 8×1 with one coded slice.
+-- shortest word". Gray with one coded slice of one byte.
 unfoldable pub sizes : List Known
 sizes =
-    ("8 samples of a word of 1 bit fit a byte" of answer8 (frameOf (1 ∷ 0 ∷ []) ((0 ∷ 1 ∷ 0xFF ∷ []) ∷ [])) (plain Gray 8 1 1) (code (2 ∷ 2 ∷ 1 ∷ [])) 8 4 is done)
-    ∷ ("9 do not" of answer8 (frameOf (1 ∷ 0 ∷ []) ((0 ∷ 1 ∷ 0xFF ∷ []) ∷ [])) (plain Gray 9 1 1) (code (2 ∷ 2 ∷ 1 ∷ [])) 9 4 is atSlice 12 0)
-    ∷ ("3 samples of a word of 3 bits need two bytes" of answer8 (frameOf (1 ∷ 0 ∷ []) ((0 ∷ 1 ∷ 0 ∷ []) ∷ [])) (plain Gray 3 1 1) (code (3 ∷ 3 ∷ 3 ∷ [])) 3 8 is atSlice 12 0)
+    ("9 samples of a word of 1 bit do not fit a byte" of answer8 (frameOf (1 ∷ 0 ∷ []) ((0 ∷ 1 ∷ 0xFF ∷ []) ∷ [])) (plain Gray 9 1 1) (code (2 ∷ 2 ∷ 1 ∷ [])) 9 4 is atSlice 12 0)
+    ∷ ("3 samples of a word of 3 bits do not" of answer8 (frameOf (1 ∷ 0 ∷ []) ((0 ∷ 1 ∷ 0 ∷ []) ∷ [])) (plain Gray 3 1 1) (code (3 ∷ 3 ∷ 3 ∷ [])) 3 8 is atSlice 12 0)
+    ∷ ("8 samples of a word of 1 bit do" of answer8 (frameOf (1 ∷ 0 ∷ []) ((0 ∷ 1 ∷ 0xFF ∷ []) ∷ [])) (plain Gray 8 1 1) (code (2 ∷ 2 ∷ 1 ∷ [])) 8 4 is done)
     ∷ []
 
 -- "Only after all slices pass are they read, in wire order, each 15 before its 14."
+unfoldable pub kinds : List Known
+kinds =
+    ("15: predictor 0 at slice 1" of coloursSay (set colours 56 0) is atSlice 15 1)
+    ∷ ("predictor 2 at slice 1" of coloursSay (set colours 56 2) is done)
+    ∷ ("predictor 3 at slice 1" of coloursSay (set colours 56 3) is done)
+    ∷ ("15: predictor 4 at slice 1" of coloursSay (set colours 56 4) is atSlice 15 1)
+    ∷ []
+
 unfoldable pub readings : List Known
 readings =
-    ("15: predictor 0 at slice 1" of coloursSay (set colours 56 0) is atSlice 15 1)
-    ∷ ("predictors 2 and 3 at slice 1" of coloursSay (set colours 56 2) ++ coloursSay (set colours 56 3) is done ++ done)
-    ∷ ("15: predictor 4 at slice 1" of coloursSay (set colours 56 4) is atSlice 15 1)
-    ∷ ("12 of slice 2 before 15 of slice 0" of coloursSay (take 60 (set colours 53 0)) is atSlice 12 2)
+    ("12 of slice 2 before 15 of slice 0" of coloursSay (take 60 (set colours 53 0)) is atSlice 12 2)
     ∷ ("14 of a wordless plane at slice 1 before 15 of slice 0" of coloursSay (set (set colours 53 0) 55 0) is atPlane 14 2)
     ∷ ("15 of slice 0 before 15 of slice 1" of coloursSay (set (set colours 53 0) 56 0) is atSlice 15 0)
     ∷ []
 
--- the same where slices 0 and 1 are coded: 250 begins with 11, which under 2,2 is no word
+-- the same where slice 0 or 1 is coded: 250 begins with 11, which under 2,2 is no word
 unfoldable pub stuck : List Known
 stuck =
-    ("14 while reading slice 1, at plane 2" of answer8 (set colours 55 0) (plain Rgb 1 1 1) (codes [] [] (2 ∷ 2 ∷ [])) 3 6 is atPlane 14 2)
-    ∷ ("15 before 14 at a slice" of answer8 (set (set colours 55 0) 56 0) (plain Rgb 1 1 1) (codes [] [] (2 ∷ 2 ∷ [])) 3 6 is atSlice 15 1)
-    ∷ ("14 of slice 0 before 15 of slice 1" of answer8 (set (set (set colours 52 0) 54 250) 56 0) (plain Rgb 1 1 1) (codes [] (2 ∷ 2 ∷ []) []) 3 6 is atPlane 14 1)
+    ("15 before 14 at a slice" of answer8 (set (set colours 55 0) 56 0) (plain Rgb 1 1 1) (codes [] [] (2 ∷ 2 ∷ [])) 3 6 is atSlice 15 1)
     ∷ ("15 of slice 0 before 14 of slice 1" of answer8 (set (set colours 53 0) 55 0) (plain Rgb 1 1 1) (codes [] [] (2 ∷ 2 ∷ [])) 3 6 is atSlice 15 0)
+    ∷ ("14 while reading slice 1, at plane 2" of answer8 (set colours 55 0) (plain Rgb 1 1 1) (codes [] [] (2 ∷ 2 ∷ [])) 3 6 is atPlane 14 2)
     ∷ []
 
-unfoldable pub stuckLeaves : List Known
-stuckLeaves =
-    ("14 while reading leaves all zero" of decode8 (set colours 55 0) (plain Rgb 1 1 1) (codes [] [] (2 ∷ 2 ∷ [])) 3 6 is atPlane 14 2 ++ replicate 9 0) ∷ []
+unfoldable pub stuckFirst : List Known
+stuckFirst =
+    ("14 of slice 0 before 15 of slice 1" of answer8 (set (set (set colours 52 0) 54 250) 56 0) (plain Rgb 1 1 1) (codes [] (2 ∷ 2 ∷ []) []) 3 6 is atPlane 14 1) ∷ []
+
+unfoldable pub stuckPlanes : List Known
+stuckPlanes =
+    ("14 while reading leaves the planes zero" of planesAfter Eight (set colours 55 0) (plain Rgb 1 1 1) (codes [] [] (2 ∷ 2 ∷ [])) (9 ∷ 9 ∷ 9 ∷ []) 6 is 0 ∷ 0 ∷ 0 ∷ []) ∷ []
+
+unfoldable pub stuckWorkspace : List Known
+stuckWorkspace =
+    ("and the workspace" of workspaceAfter Eight (set colours 55 0) (plain Rgb 1 1 1) (codes [] [] (2 ∷ 2 ∷ [])) 3 (replicate 6 9) is replicate 6 0) ∷ []
 
 -- ---- pictures
 
@@ -667,16 +725,18 @@ cut =
     is 1 ∷ 2 ∷ 2 ∷ 3 ∷ 3 ∷ 4 ∷ 4 ∷ 5 ∷ 1 ∷ 2 ∷ 2 ∷ 3 ∷ 1 ∷ 2 ∷ 7 ∷ 1 ∷ 2 ∷ 9 ∷ [])
     ∷ []
 
--- coded slices: each plane has a code of its own. Gray 3×1 with the payload 8C under 1,2,2 reads 0, 1, 2.
+-- Coded slices: each plane has a code of its own. Gray 3×1 with the payload 8C under 1,2,2 of the symbols 253 to 255 reads those
+-- three; Left adds them up.
 unfoldable pub coded : List Known
 coded =
-    ("8C under 1,2,2 in a frame" of decode8 (frameOf (1 ∷ 0 ∷ []) ((0 ∷ 1 ∷ 0x8C ∷ []) ∷ [])) (plain Gray 3 1 1) (code (1 ∷ 2 ∷ 2 ∷ [])) 3 5 is done ++ (0 ∷ 1 ∷ 3 ∷ 0 ∷ 0 ∷ 0 ∷ 0 ∷ 0 ∷ []))
+    ("8C in a frame" of planesAfter Eight (frameOf (1 ∷ 0 ∷ []) ((0 ∷ 1 ∷ 0x8C ∷ []) ∷ [])) (plain Gray 3 1 1) (code (1 ∷ 2 ∷ 2 ∷ [])) (9 ∷ 9 ∷ 9 ∷ []) 5 is 253 ∷ 251 ∷ 250 ∷ [])
+    ∷ ("success leaves the workspace zero" of workspaceAfter Eight (frameOf (1 ∷ 0 ∷ []) ((0 ∷ 1 ∷ 0x8C ∷ []) ∷ [])) (plain Gray 3 1 1) (code (1 ∷ 2 ∷ 2 ∷ [])) 3 (9 ∷ 9 ∷ 9 ∷ 9 ∷ 9 ∷ []) is 0 ∷ 0 ∷ 0 ∷ 0 ∷ 0 ∷ [])
     ∷ []
 
--- Rgb 2×1: G is 1 0 under 1,1, R' is 2 1 under 2,2,2 and B' is 2 0 under 1,2,2
+-- Rgb 2×1: G is 255 254 under 1,1, R' is 255 254 under 2,2,2 and B' is 255 253 under 1,2,2
 unfoldable pub codedColours : List Known
 codedColours =
-    ("three codes" of planesAfter Eight (frameOf (3 ∷ 1 ∷ 2 ∷ 0 ∷ []) ((0 ∷ 1 ∷ 0b1000_0000 ∷ []) ∷ (2 ∷ 1 ∷ 0b1001_0000 ∷ []) ∷ (0 ∷ 1 ∷ 0b0110_0000 ∷ []) ∷ [])) (plain Rgb 2 1 1) (codes (1 ∷ 2 ∷ 2 ∷ []) (1 ∷ 1 ∷ []) (2 ∷ 2 ∷ 2 ∷ [])) (replicate 6 9) 10 is 1 ∷ 1 ∷ 3 ∷ 3 ∷ 3 ∷ 4 ∷ []) ∷ []
+    ("three codes" of planesAfter Eight (frameOf (3 ∷ 1 ∷ 2 ∷ 0 ∷ []) ((0 ∷ 1 ∷ 0b1000_0000 ∷ []) ∷ (2 ∷ 1 ∷ 0b1001_0000 ∷ []) ∷ (0 ∷ 1 ∷ 0b0110_0000 ∷ []) ∷ [])) (plain Rgb 2 1 1) (codes (1 ∷ 2 ∷ 2 ∷ []) (1 ∷ 1 ∷ []) (2 ∷ 2 ∷ 2 ∷ [])) (replicate 6 9) 10 is 255 ∷ 253 ∷ 254 ∷ 249 ∷ 254 ∷ 250 ∷ []) ∷ []
 
 -- ---- depths 10, 12 and 14
 
@@ -698,7 +758,7 @@ ten =
 unfoldable pub twelve : List Known
 twelve = ("depth 12: ABC and DEF, then a byte left over" of deepPlanes 12 4096 2 1 1 (0xAB ∷ 0xCD ∷ 0xEF ∷ 0xFF ∷ []) is 0xABC ∷ 0x8AB ∷ []) ∷ []
 
--- The picture alone, since 16,384 lengths are long to look through; that they pass stands in `amounts`.
+-- The picture alone, since 16,384 lengths are long to look through; that they pass stands in `lengthAmounts`.
 unfoldable pub fourteen : List Known
 fourteen =
     ("depth 14: 16,383 and 1" of pictureOf (deepFrame 1 (0xFF ∷ 0xFC ∷ 0x00 ∷ 0x10 ∷ [])) (shape Gray 2 1 1 1 1 14 false) [] is 16383 ∷ 0 ∷ []) ∷ []
@@ -732,16 +792,19 @@ known =
     words ∷ sums ∷ reading ∷ needs ∷ tables ∷ lookups
     ∷ built ∷ readAlone
     ∷ slices ∷ predictors ∷ raws
-    ∷ rules ∷ multiples ∷ amounts
+    ∷ rules ∷ multiples ∷ amounts ∷ lengthAmounts ∷ leaves
     ∷ figures ∷ places ∷ wholeFrame ∷ far
-    ∷ order ∷ preambles ∷ indices ∷ lengths ∷ bounds ∷ sizes ∷ readings ∷ stuck ∷ stuckLeaves
+    ∷ order ∷ preambles ∷ indices ∷ lengths ∷ lengthsLeave ∷ room ∷ roomLeaves
+    ∷ bounds ∷ entryBytes ∷ short ∷ shortLeaves ∷ flags ∷ wireOrder ∷ sizes
+    ∷ kinds ∷ readings ∷ stuck ∷ stuckFirst ∷ stuckPlanes ∷ stuckWorkspace
     ∷ grays ∷ rgba ∷ yuva ∷ yuv ∷ cut ∷ coded ∷ codedColours
     ∷ ten ∷ deepColours ∷ smallWords
     -- those with long lists come last
-    ∷ lengthsCap ∷ longNeed ∷ twoHeads ∷ secondPart ∷ twelve ∷ fourteen
+    ∷ tooManyLengths ∷ asManyLengths ∷ longNeed ∷ twoHeads ∷ secondPart ∷ twelve ∷ fourteen
     ∷ []
 
--- one tt a group; the error at a wrong row says `Wrong` and the row's name
+-- One tt a group. The error at a wrong row shows `Wrong` and the row's name; where that row takes long to compute it shows the
+-- group's, in which the row then stands alone.
 pub known-answers : AllHold known
 unfolding count sumBelow listFrom grown rowsOfEach leftBy
     sizeFits factorFits geometryFits factorsDivide sliceHeightDivides small planeWidth planeHeight planeSliceHeight rowsAt planeSamples allSamples lengthsOf fields swapped planeStart rowStart
@@ -754,9 +817,9 @@ unfolding count sumBelow listFrom grown rowsOfEach leftBy
     buildAnswer workspaceBuilt readAnswer samplesRead workspaceRead
     wordsBelow wordsOf found read said each shape plain code codes wordless le entries joined frameOf answer8 decode decode8 decode16 lent8 lent16
     twoParts tiny tinySays colours coloursSay four deepFrame deepPlanes listed
-    words sums reading needs longNeed twoHeads tables secondPart lookups built lengthsCap readAlone slices predictors raws rules multiples amounts figures places wholeFrame far order preambles indices lengths bounds sizes readings stuck stuckLeaves grays rgba yuva yuv cut coded codedColours ten twelve fourteen deepColours smallWords known
+    words sums reading needs longNeed twoHeads tables secondPart lookups built tooManyLengths asManyLengths readAlone slices predictors raws rules multiples amounts lengthAmounts leaves figures places wholeFrame far order preambles indices lengths lengthsLeave room roomLeaves bounds entryBytes short shortLeaves flags wireOrder sizes kinds readings stuck stuckFirst stuckPlanes stuckWorkspace grays rgba yuva yuv cut coded codedColours ten twelve fourteen deepColours smallWords known
 known-answers =
-    (tt, (tt, (tt, (tt, (tt, (tt, (tt, (tt, (tt, (tt, (tt, (tt, (tt, (tt, (tt, (tt, (tt, (tt, (tt, (tt, (tt, (tt, (tt, (tt, (tt, (tt, (tt, (tt, (tt, (tt, (tt, (tt, (tt, (tt, (tt, (tt, (tt, (tt, (tt, (tt, (tt, (tt, (tt, tt)))))))))))))))))))))))))))))))))))))))))))
+    (tt, (tt, (tt, (tt, (tt, (tt, (tt, (tt, (tt, (tt, (tt, (tt, (tt, (tt, (tt, (tt, (tt, (tt, (tt, (tt, (tt, (tt, (tt, (tt, (tt, (tt, (tt, (tt, (tt, (tt, (tt, (tt, (tt, (tt, (tt, (tt, (tt, (tt, (tt, (tt, (tt, (tt, (tt, (tt, (tt, (tt, (tt, (tt, (tt, (tt, (tt, (tt, (tt, (tt, (tt, (tt, (tt, tt)))))))))))))))))))))))))))))))))))))))))))))))))))))))))
 
 -- ---- laws, for what takes lists too long to compute
 

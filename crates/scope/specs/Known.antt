@@ -421,8 +421,11 @@ unfoldable pub lengthAmounts : List Known
 lengthAmounts =
     ("one length more or less" of each (λ n. numberOf (answerOf Eight [] (plain Gray 1 1 1) (replicate n 0) 1 0)) (255 ∷ 256 ∷ 257 ∷ []) is 4 ∷ 5 ∷ 4 ∷ [])
     ∷ ("depth 10: 1,024 lengths a plane" of each (λ n. lent16 (shape Gray 1 1 1 1 1 10 false) n 1) (1023 ∷ 1024 ∷ 1025 ∷ []) is 4 ∷ 5 ∷ 4 ∷ [])
-    ∷ ("depths 12 and 14: 4,096 and 16,384" of lent16 (shape Gray 1 1 1 1 1 12 false) 4096 1 ∷ lent16 (shape Gray 1 1 1 1 1 14 false) 16384 1 ∷ [] is 5 ∷ 5 ∷ [])
     ∷ []
+
+unfoldable pub mostLengths : List Known
+mostLengths =
+    ("depths 12 and 14: 4,096 and 16,384" of lent16 (shape Gray 1 1 1 1 1 12 false) 4096 1 ∷ lent16 (shape Gray 1 1 1 1 1 14 false) 16384 1 ∷ [] is 5 ∷ 5 ∷ []) ∷ []
 
 -- "Refusals 1 to 4 leave planes and workspace as found. All others leave both wholly zero.": these held 9
 unfoldable pub leaves : List Known
@@ -652,8 +655,11 @@ unfoldable pub stuck : List Known
 stuck =
     ("15 before 14 at a slice" of answer8 (set (set colours 55 0) 56 0) (plain Rgb 1 1 1) (codes [] [] (2 ∷ 2 ∷ [])) 3 6 is atSlice 15 1)
     ∷ ("15 of slice 0 before 14 of slice 1" of answer8 (set (set colours 53 0) 55 0) (plain Rgb 1 1 1) (codes [] [] (2 ∷ 2 ∷ [])) 3 6 is atSlice 15 0)
-    ∷ ("14 while reading slice 1, at plane 2" of answer8 (set colours 55 0) (plain Rgb 1 1 1) (codes [] [] (2 ∷ 2 ∷ [])) 3 6 is atPlane 14 2)
     ∷ []
+
+unfoldable pub stuckInPlane : List Known
+stuckInPlane =
+    ("14 while reading slice 1, at plane 2" of answer8 (set colours 55 0) (plain Rgb 1 1 1) (codes [] [] (2 ∷ 2 ∷ [])) 3 6 is atPlane 14 2) ∷ []
 
 unfoldable pub stuckFirst : List Known
 stuckFirst =
@@ -758,7 +764,7 @@ ten =
 unfoldable pub twelve : List Known
 twelve = ("depth 12: ABC and DEF, then a byte left over" of deepPlanes 12 4096 2 1 1 (0xAB ∷ 0xCD ∷ 0xEF ∷ 0xFF ∷ []) is 0xABC ∷ 0x8AB ∷ []) ∷ []
 
--- The picture alone, since 16,384 lengths are long to look through; that they pass stands in `lengthAmounts`.
+-- The picture alone, since 16,384 lengths are long to look through; that they pass stands in `mostLengths`.
 unfoldable pub fourteen : List Known
 fourteen =
     ("depth 14: 16,383 and 1" of pictureOf (deepFrame 1 (0xFF ∷ 0xFC ∷ 0x00 ∷ 0x10 ∷ [])) (shape Gray 2 1 1 1 1 14 false) [] is 16383 ∷ 0 ∷ []) ∷ []
@@ -796,11 +802,11 @@ known =
     ∷ figures ∷ places ∷ wholeFrame ∷ far
     ∷ order ∷ preambles ∷ indices ∷ lengths ∷ lengthsLeave ∷ room ∷ roomLeaves
     ∷ bounds ∷ entryBytes ∷ short ∷ shortLeaves ∷ flags ∷ wireOrder ∷ sizes
-    ∷ kinds ∷ readings ∷ stuck ∷ stuckFirst ∷ stuckPlanes ∷ stuckWorkspace
+    ∷ kinds ∷ readings ∷ stuck ∷ stuckInPlane ∷ stuckFirst ∷ stuckPlanes ∷ stuckWorkspace
     ∷ grays ∷ rgba ∷ yuva ∷ yuv ∷ cut ∷ coded ∷ codedColours
     ∷ ten ∷ deepColours ∷ smallWords
     -- those with long lists come last
-    ∷ tooManyLengths ∷ asManyLengths ∷ longNeed ∷ twoHeads ∷ secondPart ∷ twelve ∷ fourteen
+    ∷ mostLengths ∷ tooManyLengths ∷ asManyLengths ∷ longNeed ∷ twoHeads ∷ secondPart ∷ twelve ∷ fourteen
     ∷ []
 
 -- One tt a group. The error at a wrong row shows `Wrong` and the row's name; where that row takes long to compute it shows the
@@ -817,9 +823,9 @@ unfolding count sumBelow listFrom grown rowsOfEach leftBy
     buildAnswer workspaceBuilt readAnswer samplesRead workspaceRead
     wordsBelow wordsOf found read said each shape plain code codes wordless le entries joined frameOf answer8 decode decode8 decode16 lent8 lent16
     twoParts tiny tinySays colours coloursSay four deepFrame deepPlanes listed
-    words sums reading needs longNeed twoHeads tables secondPart lookups built tooManyLengths asManyLengths readAlone slices predictors raws rules multiples amounts lengthAmounts leaves figures places wholeFrame far order preambles indices lengths lengthsLeave room roomLeaves bounds entryBytes short shortLeaves flags wireOrder sizes kinds readings stuck stuckFirst stuckPlanes stuckWorkspace grays rgba yuva yuv cut coded codedColours ten twelve fourteen deepColours smallWords known
+    words sums reading needs longNeed twoHeads tables secondPart lookups built tooManyLengths asManyLengths readAlone slices predictors raws rules multiples amounts lengthAmounts mostLengths leaves figures places wholeFrame far order preambles indices lengths lengthsLeave room roomLeaves bounds entryBytes short shortLeaves flags wireOrder sizes kinds readings stuck stuckInPlane stuckFirst stuckPlanes stuckWorkspace grays rgba yuva yuv cut coded codedColours ten twelve fourteen deepColours smallWords known
 known-answers =
-    (tt, (tt, (tt, (tt, (tt, (tt, (tt, (tt, (tt, (tt, (tt, (tt, (tt, (tt, (tt, (tt, (tt, (tt, (tt, (tt, (tt, (tt, (tt, (tt, (tt, (tt, (tt, (tt, (tt, (tt, (tt, (tt, (tt, (tt, (tt, (tt, (tt, (tt, (tt, (tt, (tt, (tt, (tt, (tt, (tt, (tt, (tt, (tt, (tt, (tt, (tt, (tt, (tt, (tt, (tt, (tt, (tt, tt)))))))))))))))))))))))))))))))))))))))))))))))))))))))))
+    (tt, (tt, (tt, (tt, (tt, (tt, (tt, (tt, (tt, (tt, (tt, (tt, (tt, (tt, (tt, (tt, (tt, (tt, (tt, (tt, (tt, (tt, (tt, (tt, (tt, (tt, (tt, (tt, (tt, (tt, (tt, (tt, (tt, (tt, (tt, (tt, (tt, (tt, (tt, (tt, (tt, (tt, (tt, (tt, (tt, (tt, (tt, (tt, (tt, (tt, (tt, (tt, (tt, (tt, (tt, (tt, (tt, (tt, (tt, tt)))))))))))))))))))))))))))))))))))))))))))))))))))))))))))
 
 -- ---- laws, for what takes lists too long to compute
 

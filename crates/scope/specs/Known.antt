@@ -3,17 +3,17 @@
 -- place and order that the rules name, so that a slip in a definition makes a row wrong ("Slips to shut out"). What cannot be
 -- computed, because the lists would be too long, stands below the table as a short law. Assumes nothing.
 use mathlib.Core.Path.{_≡_, refl}
-use Prim.Native.Nat.{ℕ, zero, suc, _+_, _-_, _*_, _<_}
+use Prim.Native.Nat.{ℕ, zero, suc, _+_, _-_, _*_}
 use Prim.Native.String.{String}
 use mathlib.Core.Bool.{Bool, true, false, cond, _&&_}
 use mathlib.Core.List.{List, [], _∷_, _++_}
 use lib.ListN.{length, take, drop, set, replicate}
 use native.Mathlib.Omega.{arith}
 use lib.Dec.{T, eqb, ltb, leb→le}
-use Rattle.scope.specs.Base.{Bytes, Lengths, Samples, halfUp, overUp, one, count, sumBelow, listFrom, listBelow, grown}
+use Rattle.scope.specs.Base.{Bytes, Lengths, halfUp, overUp, one, count, sumBelow, listFrom, listBelow, grown}
 use Rattle.scope.specs.Refusals.{numberOf, placeOf, kindNumber, placeNumber, refuseIf, _andThen_, rowsOfEach, leftBy}
 use Rattle.scope.specs.Geometry.{sizeFits, factorFits, geometryFits, factorsDivide, sliceHeightDivides, slicesPerPlane, sliceCount, small, planeWidth, planeHeight, planeSliceHeight, firstRow, rowsAt, planeSamples, allSamples, lengthsOf, fields, swapped, orderOf, planeStart, rowStart}
-use Rattle.scope.specs.Layout.{le32, entry, preambleStart, preambleEnd, countByte, planeIndex, namedBefore, placeInPlane, sliceStart, sliceEnd, isRaw, predictorOf, payloadOf, samplesIn, sliceAt}
+use Rattle.scope.specs.Layout.{le32, entry, preambleEnd, countByte, planeIndex, namedBefore, placeInPlane, sliceStart, sliceEnd, isRaw, predictorOf, payloadOf, samplesIn, sliceAt}
 use Rattle.scope.specs.Bits.{bitAt, window, packedFrom, rawSamples}
 use Rattle.scope.specs.Words.{lengthOf, longest, shorter, shortest, tooLong, share, shares, overfull, startDown, first, wordOf, isHead, headBelow, heads, needFrom, need, beginsWith, wordBelow, wordAt, Chain, symbols, stuckAt, _before_, onWord, chainBy, chain, isStuck, symbolsOf, Begins, Spells}
 use Rattle.scope.specs.Lookup.{packed, unpacked, beginsIn, wordIn, firstPart, slots, tableOf, lookupIn}
@@ -166,9 +166,6 @@ decode which frame g lengths planes workspace =
 unfoldable pub decode8 : List ℕ → Geometry → List ℕ → ℕ → ℕ → List ℕ
 decode8 = decode Eight
 
-unfoldable pub decode16 : List ℕ → Geometry → List ℕ → ℕ → ℕ → List ℕ
-decode16 = decode Deep
-
 -- Only a geometry is lent, with an empty frame, the lengths of n planes (at the deep entry n lengths) and a plane buffer of m
 -- samples: the number of a refusal from 1 to 4, or 5 where those pass.
 unfoldable pub lent8 : Geometry → ℕ → ℕ → ℕ
@@ -217,7 +214,7 @@ reading =
     -- * 1: bit 1 refused
     ∷ ("1: no word at 1" of found (wordAt (1 ∷ []) (0b1000_0000 ∷ []) 0) is [])
     ∷ ("the word at a position: its length and symbol" of found (wordAt (0 ∷ 3 ∷ 1 ∷ []) (0b1000_0000 ∷ []) 1) ++ found (wordAt (0 ∷ 3 ∷ 1 ∷ []) (0b1000_0000 ∷ []) 0) is 3 ∷ 1 ∷ 1 ∷ 2 ∷ [])
-    -- *
+    -- * this and the next
     ∷ ("8C under 1,2,2, four samples" of read (chain (1 ∷ 2 ∷ 2 ∷ []) (0x8C ∷ []) 0 4) is 1 ∷ 0 ∷ 1 ∷ 2 ∷ 0 ∷ [])
     ∷ ("six samples: the last from past the end" of read (chain (1 ∷ 2 ∷ 2 ∷ []) (0x8C ∷ []) 0 6) is 1 ∷ 0 ∷ 1 ∷ 2 ∷ 0 ∷ 1 ∷ 1 ∷ [])
     ∷ ("the position where no word fits" of read (chain (2 ∷ 2 ∷ 2 ∷ []) (0b0110_1100 ∷ []) 0 4) is 0 ∷ 4 ∷ [])
@@ -757,6 +754,7 @@ deepPlanes depth lengths w h kind bytes =
 unfoldable pub ten : List Known
 ten =
     ("depth 10: residues 1023 and 1" of deepPlanes 10 1024 2 1 1 (0xFF ∷ 0xC0 ∷ 0x10 ∷ []) is 1023 ∷ 0 ∷ [])
+    ∷ ("depth 10 at the byte entry: 1, and all as found" of decode Eight (deepFrame 1 (0xFF ∷ 0xC0 ∷ 0x10 ∷ [])) (shape Gray 2 1 1 1 1 10 false) (replicate 1024 0) 2 1 is refusal 1 ++ (9 ∷ 9 ∷ 9 ∷ []))
     ∷ ("one byte too few" of said (answerOf Deep (deepFrame 1 (0xFF ∷ 0xC0 ∷ [])) (shape Gray 2 1 1 1 1 10 false) (replicate 1024 0) 2 1) is atSlice 12 0)
     ∷ ("left 200, top 100, top-left 10" of deepPlanes 10 1024 2 2 3 (0x02 ∷ 0x85 ∷ 0xA2 ∷ 0xF8 ∷ 0x00 ∷ []) is 10 ∷ 100 ∷ 200 ∷ 200 ∷ [])
     ∷ []
@@ -821,7 +819,7 @@ unfolding count sumBelow listFrom grown rowsOfEach leftBy
     gradient clampMedian t87Median median predictor prediction sample samplesOf plus
     needOfAll fewestBytes residuesOf sliceSamples planeUpTo wirePlane coloured planesUpTo pictureOf table answerOf planesAfter workspaceAfter
     buildAnswer workspaceBuilt readAnswer samplesRead workspaceRead
-    wordsBelow wordsOf found read said each shape plain code codes wordless le entries joined frameOf answer8 decode decode8 decode16 lent8 lent16
+    wordsBelow wordsOf found read said each shape plain code codes wordless le entries joined frameOf answer8 decode decode8 lent8 lent16
     twoParts tiny tinySays colours coloursSay four deepFrame deepPlanes listed
     words sums reading needs longNeed twoHeads tables secondPart lookups built tooManyLengths asManyLengths readAlone slices predictors raws rules multiples amounts lengthAmounts mostLengths leaves figures places wholeFrame far order preambles indices lengths lengthsLeave room roomLeaves bounds entryBytes short shortLeaves flags wireOrder sizes kinds readings stuck stuckInPlane stuckFirst stuckPlanes stuckWorkspace grays rgba yuva yuv cut coded codedColours ten twelve fourteen deepColours smallWords known
 known-answers =

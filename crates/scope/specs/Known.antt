@@ -263,7 +263,7 @@ twoParts = 255 ∷ 255 ∷ (replicate 1022 0 ++ (replicate 1024 770 ++ (replicat
 
 unfoldable pub secondPart : List Known
 secondPart =
-    ("13,13,13: the table, around its heads and in its second part" of take 3 (tableOf (13 ∷ 13 ∷ 13 ∷ [])) ++ drop 4095 (tableOf (13 ∷ 13 ∷ 13 ∷ [])) is 255 ∷ 255 ∷ 0 ∷ 0 ∷ 13 ∷ 269 ∷ 525 ∷ 0 ∷ [])
+    ("13,13,13,2: the table, around its heads and in its second part" of take 3 (tableOf (13 ∷ 13 ∷ 13 ∷ 2 ∷ [])) ++ drop 4095 (tableOf (13 ∷ 13 ∷ 13 ∷ 2 ∷ [])) is 255 ∷ 255 ∷ 0 ∷ 0 ∷ 13 ∷ 269 ∷ 525 ∷ 0 ∷ [])
     ∷ []
 
 unfoldable pub lookups : List Known

@@ -245,6 +245,7 @@ unfoldable pub tables : List Known
 tables =
     ("1,2,2: the table" of tableOf (1 ∷ 2 ∷ 2 ∷ []) is 258 ∷ 514 ∷ 1 ∷ 1 ∷ [])
     ∷ ("2,2,2: the table, an unfilled slot last" of tableOf (2 ∷ 2 ∷ 2 ∷ []) is 2 ∷ 258 ∷ 514 ∷ 0 ∷ [])
+    ∷ ("1,1: the table" of tableOf (1 ∷ 1 ∷ []) is 1 ∷ 257 ∷ [])
     ∷ ("no word: a table of one unfilled slot" of tableOf (0 ∷ 0 ∷ []) is 0 ∷ [])
     ∷ ("a slot and what it says" of packed (Word 3 5) ∷ packed NoWord ∷ [] ++ found (unpacked 1283) ++ found (unpacked 1280) is 1283 ∷ 0 ∷ 3 ∷ 5 ∷ [])
     ∷ ("2,2,2: the lookup at 11 and at 10" of found (lookupIn (tableOf (2 ∷ 2 ∷ 2 ∷ [])) 2 (0b1110_0000 ∷ []) 0) ++ found (lookupIn (tableOf (2 ∷ 2 ∷ 2 ∷ [])) 2 (0b1110_0000 ∷ []) 2) is 2 ∷ 2 ∷ [])
@@ -263,7 +264,7 @@ twoParts = 255 ∷ 255 ∷ (replicate 1022 0 ++ (replicate 1024 770 ++ (replicat
 
 unfoldable pub secondPart : List Known
 secondPart =
-    ("13,13,13,2: the table, around its heads and in its second part" of take 3 (tableOf (13 ∷ 13 ∷ 13 ∷ 2 ∷ [])) ++ drop 4095 (tableOf (13 ∷ 13 ∷ 13 ∷ 2 ∷ [])) is 255 ∷ 255 ∷ 0 ∷ 0 ∷ 13 ∷ 269 ∷ 525 ∷ 0 ∷ [])
+    ("13,13,13,2: the table, its heads, the end of its short word, and its second part" of take 3 (tableOf (13 ∷ 13 ∷ 13 ∷ 2 ∷ [])) ++ take 2 (drop 2047 (tableOf (13 ∷ 13 ∷ 13 ∷ 2 ∷ []))) ++ drop 4095 (tableOf (13 ∷ 13 ∷ 13 ∷ 2 ∷ [])) is 255 ∷ 255 ∷ 0 ∷ 770 ∷ 0 ∷ 0 ∷ 13 ∷ 269 ∷ 525 ∷ 0 ∷ [])
     ∷ []
 
 unfoldable pub lookups : List Known
@@ -718,14 +719,17 @@ yuv =
     ∷ []
 
 -- Yuv 2×6 under 4:2:0 in slices of 4 rows: planes of 2×6, 1×3 and 1×3, each in a place of 4 (or 2) rows and a cut one of 2 (or 1)
+unfoldable pub half : Geometry
+half = shape Yuv 2 6 4 2 2 8 false
+
+unfoldable pub bands : List ℕ
+bands =
+    frameOf (3 ∷ 1 ∷ 0 ∷ 2 ∷ 1 ∷ 2 ∷ 0 ∷ [])
+    ((1 ∷ 1 ∷ 1 ∷ 1 ∷ []) ∷ (1 ∷ 1 ∷ 1 ∷ 1 ∷ 1 ∷ 1 ∷ 1 ∷ 1 ∷ 1 ∷ 1 ∷ []) ∷ (1 ∷ 1 ∷ 1 ∷ 1 ∷ []) ∷ (1 ∷ 1 ∷ 7 ∷ []) ∷ (1 ∷ 1 ∷ 9 ∷ []) ∷ (1 ∷ 1 ∷ 1 ∷ 1 ∷ 1 ∷ 1 ∷ []) ∷ [])
+
 unfoldable pub cut : List Known
 cut =
-    ("4:2:0, a cut last place"
-    of planesAfter Eight
-    (frameOf (3 ∷ 1 ∷ 0 ∷ 2 ∷ 1 ∷ 2 ∷ 0 ∷ [])
-    ((1 ∷ 1 ∷ 1 ∷ 1 ∷ []) ∷ (1 ∷ 1 ∷ 1 ∷ 1 ∷ 1 ∷ 1 ∷ 1 ∷ 1 ∷ 1 ∷ 1 ∷ []) ∷ (1 ∷ 1 ∷ 1 ∷ 1 ∷ []) ∷ (1 ∷ 1 ∷ 7 ∷ []) ∷ (1 ∷ 1 ∷ 9 ∷ []) ∷ (1 ∷ 1 ∷ 1 ∷ 1 ∷ 1 ∷ 1 ∷ []) ∷ []))
-    (shape Yuv 2 6 4 2 2 8 false) (wordless 3) (replicate 18 9) 3
-    is 1 ∷ 2 ∷ 2 ∷ 3 ∷ 3 ∷ 4 ∷ 4 ∷ 5 ∷ 1 ∷ 2 ∷ 2 ∷ 3 ∷ 1 ∷ 2 ∷ 7 ∷ 1 ∷ 2 ∷ 9 ∷ [])
+    ("4:2:0, a cut last place" of planesAfter Eight bands half (wordless 3) (replicate 18 9) 3 is 1 ∷ 2 ∷ 2 ∷ 3 ∷ 3 ∷ 4 ∷ 4 ∷ 5 ∷ 1 ∷ 2 ∷ 2 ∷ 3 ∷ 1 ∷ 2 ∷ 7 ∷ 1 ∷ 2 ∷ 9 ∷ [])
     ∷ []
 
 -- Coded slices: each plane has a code of its own. Gray 3×1 with the payload 8C under 1,2,2 of the symbols 253 to 255 reads those
@@ -733,6 +737,8 @@ cut =
 unfoldable pub coded : List Known
 coded =
     ("8C in a frame" of planesAfter Eight (frameOf (1 ∷ 0 ∷ []) ((0 ∷ 1 ∷ 0x8C ∷ []) ∷ [])) (plain Gray 3 1 1) (code (1 ∷ 2 ∷ 2 ∷ [])) (9 ∷ 9 ∷ 9 ∷ []) 5 is 253 ∷ 251 ∷ 250 ∷ [])
+    -- Gray 5×2: five words of 2 bits in one byte, the last from past its end, where the next slice's flag C1 stands
+    ∷ ("past the end of a slice stand zeros, not the next slice" of planesAfter Eight (frameOf (1 ∷ 0 ∷ 0 ∷ []) ((0 ∷ 1 ∷ 0x00 ∷ []) ∷ (0xC1 ∷ 1 ∷ 1 ∷ 1 ∷ 1 ∷ 1 ∷ 1 ∷ []) ∷ [])) (plain Gray 5 2 1) (code (1 ∷ 2 ∷ 2 ∷ [])) (replicate 10 9) 4 is 254 ∷ 252 ∷ 250 ∷ 248 ∷ 246 ∷ 1 ∷ 2 ∷ 3 ∷ 4 ∷ 5 ∷ [])
     ∷ ("success leaves the workspace zero" of workspaceAfter Eight (frameOf (1 ∷ 0 ∷ []) ((0 ∷ 1 ∷ 0x8C ∷ []) ∷ [])) (plain Gray 3 1 1) (code (1 ∷ 2 ∷ 2 ∷ [])) 3 (9 ∷ 9 ∷ 9 ∷ 9 ∷ 9 ∷ []) is 0 ∷ 0 ∷ 0 ∷ 0 ∷ 0 ∷ [])
     ∷ []
 
@@ -786,7 +792,7 @@ smallWords =
     ("half, and over, rounded up" of halfUp 4 ∷ halfUp 5 ∷ overUp 8 4 ∷ overUp 9 4 ∷ [] is 2 ∷ 3 ∷ 2 ∷ 3 ∷ [])
     ∷ ("count, sum, list" of count 2 (2 ∷ 1 ∷ 2 ∷ 0 ∷ []) ∷ sumBelow 4 (λ i. i * i) ∷ listBelow 3 (λ i. i + 5) is 2 ∷ 14 ∷ 5 ∷ 6 ∷ 7 ∷ [])
     ∷ ("slice 6 of Rgba" of listed (sliceAt four (plain Rgba 1 2 1) 6) is 6 ∷ 2 ∷ 1 ∷ 1 ∷ 1 ∷ 1 ∷ 95 ∷ 98 ∷ 1 ∷ 1 ∷ [])
-    ∷ ("the last slice ends at the frame's end" of listed (sliceAt four (plain Rgba 1 2 1) 7) is 7 ∷ 0 ∷ 1 ∷ 1 ∷ 1 ∷ 1 ∷ 98 ∷ 101 ∷ 1 ∷ 1 ∷ [])
+    ∷ ("the last slice under 4:2:0, which ends at the frame's end" of listed (sliceAt bands half 5) is 5 ∷ 0 ∷ 1 ∷ 4 ∷ 2 ∷ 2 ∷ 91 ∷ 97 ∷ 1 ∷ 1 ∷ [])
     ∷ []
 
 -- ---- the table
@@ -820,7 +826,7 @@ unfolding count sumBelow listFrom grown rowsOfEach leftBy
     needOfAll fewestBytes residuesOf sliceSamples planeUpTo wirePlane coloured planesUpTo pictureOf table answerOf planesAfter workspaceAfter
     buildAnswer workspaceBuilt readAnswer samplesRead workspaceRead
     wordsBelow wordsOf found read said each shape plain code codes wordless le entries joined frameOf answer8 decode decode8 lent8 lent16
-    twoParts tiny tinySays colours coloursSay four deepFrame deepPlanes listed
+    twoParts tiny tinySays colours coloursSay four half bands deepFrame deepPlanes listed
     words sums reading needs longNeed twoHeads tables secondPart lookups built tooManyLengths asManyLengths readAlone slices predictors raws rules multiples amounts lengthAmounts mostLengths leaves figures places wholeFrame far order preambles indices lengths lengthsLeave room roomLeaves bounds entryBytes short shortLeaves flags wireOrder sizes kinds readings stuck stuckInPlane stuckFirst stuckPlanes stuckWorkspace grays rgba yuva yuv cut coded codedColours ten twelve fourteen deepColours smallWords known
 known-answers =
     (tt, (tt, (tt, (tt, (tt, (tt, (tt, (tt, (tt, (tt, (tt, (tt, (tt, (tt, (tt, (tt, (tt, (tt, (tt, (tt, (tt, (tt, (tt, (tt, (tt, (tt, (tt, (tt, (tt, (tt, (tt, (tt, (tt, (tt, (tt, (tt, (tt, (tt, (tt, (tt, (tt, (tt, (tt, (tt, (tt, (tt, (tt, (tt, (tt, (tt, (tt, (tt, (tt, (tt, (tt, (tt, (tt, (tt, (tt, tt)))))))))))))))))))))))))))))))))))))))))))))))))))))))))))

@@ -19,6 +19,7 @@ use Rattle.scope.specs.Words.{lengthOf, longest, shorter, shortest, tooL
 use Rattle.scope.specs.Lookup.{packed, unpacked, beginsIn, wordIn, firstPart, slots, tableOf, lookupIn}
 use Rattle.scope.specs.Prediction.{gradient, clampMedian, t87Median, median, predictor, prediction, sample, samplesOf, plus}
 use Rattle.scope.specs.Frame.{needOfAll, fewestBytes, residuesOf, sliceSamples, planeUpTo, wirePlane, coloured, planesUpTo, pictureOf, table, answerOf, planesAfter, workspaceAfter}
+use Rattle.scope.specs.Pieces.{readable}
 use Rattle.scope.specs.Alone.{buildAnswer, workspaceBuilt, readAnswer, samplesRead, workspaceRead}
 use Rattle.scope.specs.declared.Entry.{Entry}
 use Rattle.scope.specs.declared.Entry.the-variants.{Eight, Deep}
@@ -77,10 +78,10 @@ wordsBelow ls (suc s) = wordsBelow ls s ++ lengthOf ls s ∷ cond (eqb (lengthOf
 unfoldable pub wordsOf : List ℕ → List ℕ
 wordsOf ls = wordsBelow ls (length ls)
 
--- length and symbol of a word that was found; nothing for none
+-- length and symbol of a word that was found; 0 0 for none
 unfoldable pub found : Found → List ℕ
 found (Word l s) = l ∷ s ∷ []
-found NoWord = []
+found NoWord = 0 ∷ 0 ∷ []
 
 -- 1 and the symbols; 0 and the position where no word fits
 unfoldable pub read : Chain → List ℕ
@@ -210,9 +211,9 @@ reading =
     ∷ ("a window over two bytes" of window (0x0F ∷ 0xA5 ∷ []) 4 8 ∷ window (0x0F ∷ 0xA5 ∷ []) 5 3 ∷ [] is 0xFA ∷ 7 ∷ [])
     ∷ ("bits past the end" of window (0xFF ∷ []) 4 8 ∷ window [] 0 8 ∷ [] is 0xF0 ∷ 0 ∷ [])
     -- * 2,2,2: bits 11 refused. An unfilled slot is no word.
-    ∷ ("2,2,2: no word at 11" of found (wordAt (2 ∷ 2 ∷ 2 ∷ []) (0b1100_0000 ∷ []) 0) is [])
+    ∷ ("2,2,2: no word at 11" of found (wordAt (2 ∷ 2 ∷ 2 ∷ []) (0b1100_0000 ∷ []) 0) is 0 ∷ 0 ∷ [])
     -- * 1: bit 1 refused
-    ∷ ("1: no word at 1" of found (wordAt (1 ∷ []) (0b1000_0000 ∷ []) 0) is [])
+    ∷ ("1: no word at 1" of found (wordAt (1 ∷ []) (0b1000_0000 ∷ []) 0) is 0 ∷ 0 ∷ [])
     ∷ ("the word at a position: its length and symbol" of found (wordAt (0 ∷ 3 ∷ 1 ∷ []) (0b1000_0000 ∷ []) 1) ++ found (wordAt (0 ∷ 3 ∷ 1 ∷ []) (0b1000_0000 ∷ []) 0) is 3 ∷ 1 ∷ 1 ∷ 2 ∷ [])
     -- * this and the next
     ∷ ("8C under 1,2,2, four samples" of read (chain (1 ∷ 2 ∷ 2 ∷ []) (0x8C ∷ []) 0 4) is 1 ∷ 0 ∷ 1 ∷ 2 ∷ 0 ∷ [])
@@ -247,12 +248,12 @@ tables =
     ∷ ("2,2,2: the table, an unfilled slot last" of tableOf (2 ∷ 2 ∷ 2 ∷ []) is 2 ∷ 258 ∷ 514 ∷ 0 ∷ [])
     ∷ ("1,1: the table" of tableOf (1 ∷ 1 ∷ []) is 1 ∷ 257 ∷ [])
     ∷ ("no word: a table of one unfilled slot" of tableOf (0 ∷ 0 ∷ []) is 0 ∷ [])
-    ∷ ("a slot and what it says" of packed (Word 3 5) ∷ packed NoWord ∷ [] ++ found (unpacked 1283) ++ found (unpacked 1280) is 1283 ∷ 0 ∷ 3 ∷ 5 ∷ [])
-    ∷ ("2,2,2: the lookup at 11 and at 10" of found (lookupIn (tableOf (2 ∷ 2 ∷ 2 ∷ [])) 2 (0b1110_0000 ∷ []) 0) ++ found (lookupIn (tableOf (2 ∷ 2 ∷ 2 ∷ [])) 2 (0b1110_0000 ∷ []) 2) is 2 ∷ 2 ∷ [])
-    ∷ ("m = 0 and m above 18 find no word" of found (lookupIn (258 ∷ []) 0 [] 0) ++ found (lookupIn (258 ∷ []) 19 [] 0) is [])
+    ∷ ("a slot and what it says" of packed (Word 3 5) ∷ packed NoWord ∷ [] ++ found (unpacked 1283) ++ found (unpacked 1280) is 1283 ∷ 0 ∷ 3 ∷ 5 ∷ 0 ∷ 0 ∷ [])
+    ∷ ("2,2,2: the lookup at 11 and at 10" of found (lookupIn (tableOf (2 ∷ 2 ∷ 2 ∷ [])) 2 (0b1110_0000 ∷ []) 0) ++ found (lookupIn (tableOf (2 ∷ 2 ∷ 2 ∷ [])) 2 (0b1110_0000 ∷ []) 2) is 0 ∷ 0 ∷ 2 ∷ 2 ∷ [])
+    ∷ ("m = 0 and m above 18 find no word" of found (lookupIn (258 ∷ []) 0 [] 0) ++ found (lookupIn (258 ∷ []) 19 [] 0) is 0 ∷ 0 ∷ 0 ∷ 0 ∷ [])
     ∷ ("m = 18 does" of found (lookupIn (258 ∷ []) 18 [] 0) is 2 ∷ 1 ∷ [])
-    ∷ ("255 leads on for m above 12 only" of found (lookupIn (255 ∷ []) 12 [] 0) ++ found (lookupIn (255 ∷ []) 13 [] 0) is 255 ∷ 0 ∷ [])
-    ∷ ("past the words of a workspace stands no word" of found (lookupIn [] 12 [] 0) ++ found (lookupIn [] 13 [] 0) is [])
+    ∷ ("255 leads on for m above 12 only" of found (lookupIn (255 ∷ []) 12 [] 0) ++ found (lookupIn (255 ∷ []) 13 [] 0) ++ found (lookupIn (511 ∷ []) 13 [] 0) is 255 ∷ 0 ∷ 0 ∷ 0 ∷ 0 ∷ 0 ∷ [])
+    ∷ ("past the words of a workspace stands no word" of found (lookupIn [] 12 [] 0) ++ found (lookupIn [] 13 [] 0) is 0 ∷ 0 ∷ 0 ∷ 0 ∷ [])
     ∷ ("bits of a slot begin with a word that fits in them" of one (beginsIn (2 ∷ 2 ∷ 2 ∷ []) 3 0b011 1) ∷ one (beginsIn (2 ∷ 2 ∷ 2 ∷ []) 3 0b001 1) ∷ one (beginsIn (2 ∷ 2 ∷ 2 ∷ []) 2 0b01 1) ∷ one (beginsIn (3 ∷ []) 2 0 0) ∷ one (beginsIn (0 ∷ []) 2 0 0) ∷ [] is 1 ∷ 0 ∷ 1 ∷ 0 ∷ 0 ∷ [])
     ∷ ("n slots of k bits" of slots (2 ∷ 2 ∷ 2 ∷ []) 3 8 is 2 ∷ 2 ∷ 258 ∷ 258 ∷ 514 ∷ 514 ∷ 0 ∷ 0 ∷ [])
     ∷ ("a slot of the first part: a head, a short word, none" of firstPart (13 ∷ 13 ∷ 13 ∷ 2 ∷ []) 12 1 ∷ firstPart (13 ∷ 13 ∷ 13 ∷ 2 ∷ []) 12 1024 ∷ firstPart (13 ∷ 13 ∷ 13 ∷ 2 ∷ []) 12 2 ∷ [] is 255 ∷ 770 ∷ 0 ∷ [])
@@ -270,8 +271,9 @@ secondPart =
 unfoldable pub lookups : List Known
 lookups =
     ("in the second part, in each head" of found (lookupIn twoParts 13 (0x00 ∷ 0x08 ∷ []) 0) ++ found (lookupIn twoParts 13 (0x00 ∷ 0x10 ∷ []) 0) is 13 ∷ 1 ∷ 13 ∷ 2 ∷ [])
-    ∷ ("its unfilled slot" of found (lookupIn twoParts 13 (0x00 ∷ 0x18 ∷ []) 0) is [])
-    ∷ ("a short word, and none" of found (lookupIn twoParts 13 (0x20 ∷ 0x80 ∷ []) 1) ++ found (lookupIn twoParts 13 (0x80 ∷ []) 0) is 2 ∷ 3 ∷ [])
+    ∷ ("its unfilled slot" of found (lookupIn twoParts 13 (0x00 ∷ 0x18 ∷ []) 0) is 0 ∷ 0 ∷ [])
+    ∷ ("a short word, and none" of found (lookupIn twoParts 13 (0x20 ∷ 0x80 ∷ []) 1) ++ found (lookupIn twoParts 13 (0x80 ∷ []) 0) is 2 ∷ 3 ∷ 0 ∷ 0 ∷ [])
+    ∷ ("a word of 12 bits next to the heads" of found (lookupIn (255 ∷ 255 ∷ 1036 ∷ []) 13 (0x00 ∷ 0x20 ∷ []) 0) is 12 ∷ 4 ∷ [])
     ∷ []
 
 -- ---- a table and a reading by themselves
@@ -791,6 +793,7 @@ unfoldable pub smallWords : List Known
 smallWords =
     ("half, and over, rounded up" of halfUp 4 ∷ halfUp 5 ∷ overUp 8 4 ∷ overUp 9 4 ∷ [] is 2 ∷ 3 ∷ 2 ∷ 3 ∷ [])
     ∷ ("count, sum, list" of count 2 (2 ∷ 1 ∷ 2 ∷ 0 ∷ []) ∷ sumBelow 4 (λ i. i * i) ∷ listBelow 3 (λ i. i + 5) is 2 ∷ 14 ∷ 5 ∷ 6 ∷ 7 ∷ [])
+    ∷ ("a reading that got stuck is 14 at its plane" of said (readable 3 (stuckAt 5)) ++ said (readable 3 (symbols (1 ∷ []))) is atPlane 14 3 ++ done)
     ∷ ("slice 6 of Rgba" of listed (sliceAt four (plain Rgba 1 2 1) 6) is 6 ∷ 2 ∷ 1 ∷ 1 ∷ 1 ∷ 1 ∷ 95 ∷ 98 ∷ 1 ∷ 1 ∷ [])
     ∷ ("the last slice under 4:2:0, which ends at the frame's end" of listed (sliceAt bands half 5) is 5 ∷ 0 ∷ 1 ∷ 4 ∷ 2 ∷ 2 ∷ 91 ∷ 97 ∷ 1 ∷ 1 ∷ [])
     ∷ []
@@ -823,7 +826,7 @@ unfolding count sumBelow listFrom grown rowsOfEach leftBy
     longest shorter shortest tooLong share shares overfull startDown first wordOf isHead headBelow heads needFrom need beginsWith wordBelow wordAt _before_ onWord chainBy symbolsOf
     packed unpacked beginsIn wordIn firstPart slots tableOf lookupIn
     gradient clampMedian t87Median median predictor prediction sample samplesOf plus
-    needOfAll fewestBytes residuesOf sliceSamples planeUpTo wirePlane coloured planesUpTo pictureOf table answerOf planesAfter workspaceAfter
+    needOfAll fewestBytes residuesOf sliceSamples planeUpTo wirePlane coloured planesUpTo pictureOf table answerOf planesAfter workspaceAfter readable
     buildAnswer workspaceBuilt readAnswer samplesRead workspaceRead
     wordsBelow wordsOf found read said each shape plain code codes wordless le entries joined frameOf answer8 decode decode8 lent8 lent16
     twoParts tiny tinySays colours coloursSay four half bands deepFrame deepPlanes listed

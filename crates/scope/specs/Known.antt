@@ -193,6 +193,7 @@ words =
     ∷ ("3,3,3,1: words 000, 001, 010 and 1" of wordsOf (3 ∷ 3 ∷ 3 ∷ 1 ∷ []) is 3 ∷ 0b000 ∷ 3 ∷ 0b001 ∷ 3 ∷ 0b010 ∷ 1 ∷ 0b1 ∷ [])
     ∷ ("13 and 1: thirteen zeros, and 1" of wordsOf (13 ∷ 1 ∷ []) is 13 ∷ 0 ∷ 1 ∷ 0b1 ∷ [])
     ∷ ("2,4,4,4,2: 01, 0000, 0001, 0010, 10" of wordsOf (2 ∷ 4 ∷ 4 ∷ 4 ∷ 2 ∷ []) is 2 ∷ 0b01 ∷ 4 ∷ 0b0000 ∷ 4 ∷ 0b0001 ∷ 4 ∷ 0b0010 ∷ 2 ∷ 0b10 ∷ [])
+    ∷ ("4,3,3,3,2: 0000, 001, 010, 011, 10" of wordsOf (4 ∷ 3 ∷ 3 ∷ 3 ∷ 2 ∷ []) is 4 ∷ 0b0000 ∷ 3 ∷ 0b001 ∷ 3 ∷ 0b010 ∷ 3 ∷ 0b011 ∷ 2 ∷ 0b10 ∷ [])
     ∷ ("a symbol past the lengths has no word" of lengthOf (1 ∷ 1 ∷ []) 2 ∷ [] is 0 ∷ [])
     ∷ ("longest and shortest, where 0 is no length" of longest (0 ∷ 3 ∷ 5 ∷ 2 ∷ 0 ∷ []) ∷ shortest (0 ∷ 3 ∷ 5 ∷ 2 ∷ 0 ∷ []) ∷ shortest (2 ∷ 3 ∷ []) ∷ shortest (0 ∷ 0 ∷ []) ∷ [] is 5 ∷ 2 ∷ 2 ∷ 0 ∷ [])
     ∷ []

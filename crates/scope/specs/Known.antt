@@ -1,5 +1,5 @@
 -- Document 01, "Known answers": one table under one statement, which the checker computes. A star marks the answers that
--- document 01 wants proved. The rows without one are its other answers, and rows of our own: at least one for every bound,
+-- document 01 wants "proved together as one table under one statement". The rows without one are its other answers, and rows of our own: at least one for every bound,
 -- place and order that the rules name, so that a slip in a definition makes a row wrong ("Slips to shut out"). What cannot be
 -- computed, because the lists would be too long, stands below the table as a short law. Assumes nothing.
 use mathlib.Core.Path.{_≡_, refl}
@@ -42,10 +42,10 @@ pub record Known : Type 0 where
   pub stated : List ℕ
 
 infix 10 _of_is_
-abbrev pub _of_is_ : String → List ℕ → List ℕ → Known
+abbrev pub _of_is_ : (name : String) (given stated : List ℕ) → Known
 n of a is b = record { name = n; given = a; stated = b }
 
-abbrev pub same : List ℕ → List ℕ → Bool
+abbrev pub same : (xs ys : List ℕ) → Bool
 same [] [] = true
 same [] (y ∷ ys) = false
 same (x ∷ xs) [] = false
@@ -55,98 +55,98 @@ same (x ∷ xs) (y ∷ ys) = eqb x y && same xs ys
 pub data Wrong (name : String) : Type 0 where
 
 -- the first wrong row's name, or else what the others come to
-abbrev pub orElse : Bool → String → Type 0 → Type 0
+abbrev pub orElse : (holds : Bool) (name : String) (others : Type 0) → Type 0
 orElse true name others = others
 orElse false name others = Wrong name
 
 -- every row of a group holds, and every row of every group
-abbrev pub Hold : List Known → Type 0
+abbrev pub Hold : (rows : List Known) → Type 0
 Hold [] = Unit
 Hold (r ∷ rs) = orElse (same (r .given) (r .stated)) (r .name) (Hold rs)
 
-abbrev pub AllHold : List (List Known) → Type 0
+abbrev pub AllHold : (groups : List (List Known)) → Type 0
 AllHold [] = Unit
 AllHold (g ∷ gs) = Hold g × AllHold gs
 
 -- ---- answers as numbers
 
 -- the words of all symbols: length and value of each, 0 0 for none
-unfoldable pub wordsBelow : List ℕ → ℕ → List ℕ
+unfoldable pub wordsBelow : (ls : Lengths) (n : ℕ) → List ℕ
 wordsBelow ls zero = []
 wordsBelow ls (suc s) = wordsBelow ls s ++ lengthOf ls s ∷ cond (eqb (lengthOf ls s) 0) 0 (wordOf ls s) ∷ []
 
-unfoldable pub wordsOf : List ℕ → List ℕ
+unfoldable pub wordsOf : (ls : Lengths) → List ℕ
 wordsOf ls = wordsBelow ls (length ls)
 
 -- length and symbol of a word that was found; 0 0 for none
-unfoldable pub found : Found → List ℕ
+unfoldable pub found : (word : Found) → List ℕ
 found (Word l s) = l ∷ s ∷ []
 found NoWord = 0 ∷ 0 ∷ []
 
 -- 1 and the symbols; 0 and the position where no word fits
-unfoldable pub read : Chain → List ℕ
+unfoldable pub read : (chain : Chain) → List ℕ
 read (symbols ss) = 1 ∷ ss
 read (stuckAt at) = 0 ∷ at ∷ []
 
 -- number, kind of place (0 nothing, 1 slice, 2 plane), and which
-unfoldable pub said : Answer → List ℕ
+unfoldable pub said : (answer : Answer) → List ℕ
 said a = numberOf a ∷ kindNumber (placeOf a) ∷ placeNumber (placeOf a) ∷ []
 
 -- the same as document 01 puts it: nothing refused, or refusal n with a place of nothing, at a slice, at a plane
 abbrev pub done : List ℕ
 done = 0 ∷ 0 ∷ 0 ∷ []
 
-abbrev pub refusal : ℕ → List ℕ
+abbrev pub refusal : (n : ℕ) → List ℕ
 refusal n = n ∷ 0 ∷ 0 ∷ []
 
-abbrev pub atSlice : ℕ → ℕ → List ℕ
+abbrev pub atSlice : (n s : ℕ) → List ℕ
 atSlice n s = n ∷ 1 ∷ s ∷ []
 
-abbrev pub atPlane : ℕ → ℕ → List ℕ
+abbrev pub atPlane : (n p : ℕ) → List ℕ
 atPlane n p = n ∷ 2 ∷ p ∷ []
 
 -- f of each number of a list
-unfoldable pub each : (ℕ → ℕ) → List ℕ → List ℕ
+unfoldable pub each : (f : ℕ → ℕ) (xs : List ℕ) → List ℕ
 each f [] = []
 each f (x ∷ xs) = f x ∷ each f xs
 
 -- ---- geometries, lengths and frames
 
-unfoldable pub shape : Family → ℕ → ℕ → ℕ → ℕ → ℕ → ℕ → Bool → Geometry
+unfoldable pub shape : (family : Family) (w h sh sx sy depth : ℕ) (two : Bool) → Geometry
 shape family w h sh sx sy depth two =
     record { width = w; height = h; «slice_height» = sh; family = family; sx = sx; sy = sy; depth = depth; interlaced = two }
 
 -- depth 8, no factors, one field
-unfoldable pub plain : Family → ℕ → ℕ → ℕ → Geometry
+unfoldable pub plain : (family : Family) (w h sh : ℕ) → Geometry
 plain family w h sh = shape family w h sh 1 1 8 false
 
 -- The lengths of a plane of depth 8: no word, but for the last symbols those given. The definitions try the last symbol first, so
 -- this is soon computed.
-unfoldable pub code : List ℕ → List ℕ
+unfoldable pub code : (ls : Lengths) → Lengths
 code ls = replicate (256 - length ls) 0 ++ ls
 
 -- the lengths of three planes, and of n planes without a word
-unfoldable pub codes : List ℕ → List ℕ → List ℕ → List ℕ
+unfoldable pub codes : (a b c : Lengths) → Lengths
 codes a b c = code a ++ (code b ++ code c)
 
-unfoldable pub wordless : ℕ → List ℕ
+unfoldable pub wordless : (n : ℕ) → Lengths
 wordless n = replicate (n * 256) 0
 
 -- a little-endian entry below 256
-unfoldable pub le : ℕ → List ℕ → List ℕ
+unfoldable pub le : (n : ℕ) (rest : Bytes) → Bytes
 le n rest = n ∷ 0 ∷ 0 ∷ 0 ∷ rest
 
 -- the entries of slices that follow one another from `at` on, and the slices
-unfoldable pub entries : ℕ → List (List ℕ) → List ℕ
+unfoldable pub entries : (at : ℕ) (slices : List Bytes) → Bytes
 entries at [] = []
 entries at (s ∷ ss) = le at (entries (at + length s) ss)
 
-unfoldable pub joined : List (List ℕ) → List ℕ
+unfoldable pub joined : (slices : List Bytes) → Bytes
 joined [] = []
 joined (s ∷ ss) = s ++ joined ss
 
 -- 32 bytes of zero, the entries, the preamble and the slices: entry s+1 is at 36+4s, the preamble at 36+4T
-unfoldable pub frameOf : List ℕ → List (List ℕ) → List ℕ
+unfoldable pub frameOf : (preamble : Bytes) (slices : List Bytes) → Bytes
 frameOf preamble slices =
     replicate 36 0
     ++ (entries (4 + 4 * length slices + length preamble) slices ++ (preamble ++ joined slices))
@@ -154,25 +154,25 @@ frameOf preamble slices =
 -- ---- what an entry says and leaves: every row about a whole frame goes through these
 
 -- the answer of the byte entry, with memory of these lengths
-unfoldable pub answer8 : List ℕ → Geometry → List ℕ → ℕ → ℕ → List ℕ
+unfoldable pub answer8 : (frame : Bytes) (g : Geometry) (lengths : Lengths) (planes workspace : ℕ) → List ℕ
 answer8 frame g lengths planes workspace = said (answerOf Eight frame g lengths planes workspace)
 
 -- the answer, the planes and the workspace after it. Both held 9 everywhere.
-unfoldable pub decode : Entry → List ℕ → Geometry → List ℕ → ℕ → ℕ → List ℕ
+unfoldable pub decode : (which : Entry) (frame : Bytes) (g : Geometry) (lengths : Lengths) (planes workspace : ℕ) → List ℕ
 decode which frame g lengths planes workspace =
     said (answerOf which frame g lengths planes workspace)
     ++ planesAfter which frame g lengths (replicate planes 9) workspace
     ++ workspaceAfter which frame g lengths planes (replicate workspace 9)
 
-unfoldable pub decode8 : List ℕ → Geometry → List ℕ → ℕ → ℕ → List ℕ
+unfoldable pub decode8 : (frame : Bytes) (g : Geometry) (lengths : Lengths) (planes workspace : ℕ) → List ℕ
 decode8 = decode Eight
 
 -- Only a geometry is lent, with an empty frame, the lengths of n planes (at the deep entry n lengths) and a plane buffer of m
 -- samples: the number of a refusal from 1 to 4, or 5 where those pass.
-unfoldable pub lent8 : Geometry → ℕ → ℕ → ℕ
+unfoldable pub lent8 : (g : Geometry) (n m : ℕ) → ℕ
 lent8 g n m = numberOf (answerOf Eight [] g (wordless n) m 0)
 
-unfoldable pub lent16 : Geometry → ℕ → ℕ → ℕ
+unfoldable pub lent16 : (g : Geometry) (n m : ℕ) → ℕ
 lent16 g n m = numberOf (answerOf Deep [] g (replicate n 0) m 0)
 
 -- ---- words and tables
@@ -182,15 +182,16 @@ lent16 g n m = numberOf (answerOf Deep [] g (replicate n 0) m 0)
 -- up (3,3,3,1 gives 000, 001, 010 and 1)."
 unfoldable pub words : List Known
 words =
-    -- * Shortest first they would be 0, 10, 11.
+    -- * "Lengths 1,2,2: words 1, 00, 01; need 4." The slip "Words assigned shortest first" gives 0, 10, 11.
     ("1,2,2: words 1, 00, 01" of wordsOf (1 ∷ 2 ∷ 2 ∷ []) is 1 ∷ 0b1 ∷ 2 ∷ 0b00 ∷ 2 ∷ 0b01 ∷ [])
-    -- *
+    -- * "2,2,2: words 00, 01, 10; bits 11 refused."
     ∷ ("2,2,2: words 00, 01, 10" of wordsOf (2 ∷ 2 ∷ 2 ∷ []) is 2 ∷ 0b00 ∷ 2 ∷ 0b01 ∷ 2 ∷ 0b10 ∷ [])
-    -- *
+    -- * "1: word 0; bit 1 refused."
     ∷ ("1: word 0" of wordsOf (1 ∷ []) is 1 ∷ 0b0 ∷ [])
-    -- *
+    -- * "0,3,1: words 000 (symbol 1) and 1 (symbol 2)."
     ∷ ("0,3,1: words 000 and 1" of wordsOf (0 ∷ 3 ∷ 1 ∷ []) is 0 ∷ 0 ∷ 3 ∷ 0b000 ∷ 1 ∷ 0b1 ∷ [])
     ∷ ("3,3,3,1: words 000, 001, 010 and 1" of wordsOf (3 ∷ 3 ∷ 3 ∷ 1 ∷ []) is 3 ∷ 0b000 ∷ 3 ∷ 0b001 ∷ 3 ∷ 0b010 ∷ 1 ∷ 0b1 ∷ [])
+    -- "Lengths 13 and 1: thirteen zeros, and 1; need 4,098."
     ∷ ("13 and 1: thirteen zeros, and 1" of wordsOf (13 ∷ 1 ∷ []) is 13 ∷ 0 ∷ 1 ∷ 0b1 ∷ [])
     ∷ ("2,4,4,4,2: 01, 0000, 0001, 0010, 10" of wordsOf (2 ∷ 4 ∷ 4 ∷ 4 ∷ 2 ∷ []) is 2 ∷ 0b01 ∷ 4 ∷ 0b0000 ∷ 4 ∷ 0b0001 ∷ 4 ∷ 0b0010 ∷ 2 ∷ 0b10 ∷ [])
     ∷ ("4,3,3,3,2: 0000, 001, 010, 011, 10" of wordsOf (4 ∷ 3 ∷ 3 ∷ 3 ∷ 2 ∷ []) is 4 ∷ 0b0000 ∷ 3 ∷ 0b001 ∷ 3 ∷ 0b010 ∷ 3 ∷ 0b011 ∷ 2 ∷ 0b10 ∷ [])
@@ -211,12 +212,12 @@ reading =
     ("bits of A5, highest first" of listFrom (bitAt (0xA5 ∷ [])) 0 8 is 1 ∷ 0 ∷ 1 ∷ 0 ∷ 0 ∷ 1 ∷ 0 ∷ 1 ∷ [])
     ∷ ("a window over two bytes" of window (0x0F ∷ 0xA5 ∷ []) 4 8 ∷ window (0x0F ∷ 0xA5 ∷ []) 5 3 ∷ [] is 0xFA ∷ 7 ∷ [])
     ∷ ("bits past the end" of window (0xFF ∷ []) 4 8 ∷ window [] 0 8 ∷ [] is 0xF0 ∷ 0 ∷ [])
-    -- * 2,2,2: bits 11 refused. An unfilled slot is no word.
+    -- * the slip "Taking an unfilled slot for symbol 0" reads 0 here
     ∷ ("2,2,2: no word at 11" of found (wordAt (2 ∷ 2 ∷ 2 ∷ []) (0b1100_0000 ∷ []) 0) is 0 ∷ 0 ∷ [])
     -- * 1: bit 1 refused
     ∷ ("1: no word at 1" of found (wordAt (1 ∷ []) (0b1000_0000 ∷ []) 0) is 0 ∷ 0 ∷ [])
     ∷ ("the word at a position: its length and symbol" of found (wordAt (0 ∷ 3 ∷ 1 ∷ []) (0b1000_0000 ∷ []) 1) ++ found (wordAt (0 ∷ 3 ∷ 1 ∷ []) (0b1000_0000 ∷ []) 0) is 3 ∷ 1 ∷ 1 ∷ 2 ∷ [])
-    -- * this and the next
+    -- * "Byte 8C under 1,2,2, four samples: 0, 1, 2, 0. Six samples: then 1, 1, the last from past the end."
     ∷ ("8C under 1,2,2, four samples" of read (chain (1 ∷ 2 ∷ 2 ∷ []) (0x8C ∷ []) 0 4) is 1 ∷ 0 ∷ 1 ∷ 2 ∷ 0 ∷ [])
     ∷ ("six samples: the last from past the end" of read (chain (1 ∷ 2 ∷ 2 ∷ []) (0x8C ∷ []) 0 6) is 1 ∷ 0 ∷ 1 ∷ 2 ∷ 0 ∷ 1 ∷ 1 ∷ [])
     ∷ ("the position where no word fits" of read (chain (2 ∷ 2 ∷ 2 ∷ []) (0b0110_1100 ∷ []) 0 4) is 0 ∷ 4 ∷ [])
@@ -283,7 +284,7 @@ lookups =
 -- plane 0), and each leaves the workspace as found. Success leaves the words past the need as found"
 unfoldable pub built : List Known
 built =
-    -- *
+    -- * "1,1,1 and 1,2,2,2: refusal 10. All zero: built, need 1."
     ("1,1,1: refusal 10" of said (buildAnswer (1 ∷ 1 ∷ 1 ∷ []) 4) is atPlane 10 0)
     -- *
     ∷ ("1,2,2,2: refusal 10" of said (buildAnswer (1 ∷ 2 ∷ 2 ∷ 2 ∷ []) 4) is atPlane 10 0)
@@ -338,10 +339,11 @@ readAlone =
 -- sample f rows up; then the predictor of left, top (f rows up) and top-left. All sums are modulo 2^depth."
 unfoldable pub slices : List Known
 slices =
-    -- * residues 10,5,250 / 1,2,3 at depth 8
+    -- * "Residues 10,5,250 / 1,2,3 at depth 8. Row 0: 10,15,9. Row 1: Left 11,13,16; Gradient 11,18,15; Median 11,17,14."
     ("Left" of samplesOf 8 1 3 1 (10 ∷ 5 ∷ 250 ∷ 1 ∷ 2 ∷ 3 ∷ []) is 10 ∷ 15 ∷ 9 ∷ 11 ∷ 13 ∷ 16 ∷ [])
     ∷ ("Gradient" of samplesOf 8 2 3 1 (10 ∷ 5 ∷ 250 ∷ 1 ∷ 2 ∷ 3 ∷ []) is 10 ∷ 15 ∷ 9 ∷ 11 ∷ 18 ∷ 15 ∷ [])
     ∷ ("Median" of samplesOf 8 3 3 1 (10 ∷ 5 ∷ 250 ∷ 1 ∷ 2 ∷ 3 ∷ []) is 10 ∷ 15 ∷ 9 ∷ 11 ∷ 17 ∷ 14 ∷ [])
+    -- the slip is "With two fields, adding the row directly above"
     ∷ ("two fields: row 2 adds row 0" of samplesOf 8 2 2 2 (1 ∷ 2 ∷ 10 ∷ 20 ∷ 100 ∷ 5 ∷ []) is 1 ∷ 3 ∷ 10 ∷ 30 ∷ 101 ∷ 108 ∷ [])
     ∷ ("two fields, row 3 adds row 1" of samplesOf 8 1 1 2 (1 ∷ 2 ∷ 3 ∷ 4 ∷ []) is 1 ∷ 2 ∷ 4 ∷ 6 ∷ [])
     ∷ ("two fields, one row" of samplesOf 8 2 2 2 (1 ∷ 2 ∷ []) is 1 ∷ 3 ∷ [])
@@ -352,7 +354,7 @@ slices =
 -- smaller and larger of left and top. Median at 10 to 14: T.87"
 unfoldable pub predictors : List Known
 predictors =
-    -- *
+    -- * "Left 200, top 100, top-left 10: median 100 at depth 8, 200 at depth 10."; the slip is "Using T.87's median at depth 8, or the clamp at 10."
     ("left 200, top 100, top-left 10: median 100 at depth 8, 200 at depth 10" of median 8 200 100 10 ∷ median 10 200 100 10 ∷ [] is 100 ∷ 200 ∷ [])
     ∷ ("the gradient, below 0, within, and above 255" of gradient 8 10 20 50 ∷ gradient 8 50 20 10 ∷ gradient 8 200 100 10 ∷ [] is 236 ∷ 60 ∷ 34 ∷ [])
     ∷ ("the clamp, from below, within, and from above" of median 8 100 200 100 ∷ median 8 100 200 150 ∷ median 8 10 20 25 ∷ median 8 10 20 5 ∷ [] is 200 ∷ 150 ∷ 10 ∷ 20 ∷ [])
@@ -360,14 +362,14 @@ predictors =
     ∷ ("T.87 at its bounds" of median 10 200 100 200 ∷ median 10 200 100 100 ∷ [] is 100 ∷ 200 ∷ [])
     ∷ ("T.87 where left + top − top-left leaves 0 to 1023" of median 10 1000 900 10 ∷ median 10 10 20 1000 ∷ [] is 1000 ∷ 10 ∷ [])
     ∷ ("1 Left, 2 Gradient, 3 Median" of each (λ k. predictor 8 k 200 100 10) (1 ∷ 2 ∷ 3 ∷ []) is 200 ∷ 34 ∷ 100 ∷ [])
-    -- * B'=1020, G=10 at depth 10: B=6
+    -- * "B'=1020, G=10 at depth 10: B=6."
     ∷ ("1020 and 10 at depth 10 are 6" of plus 10 (1020 ∷ []) (10 ∷ []) is 6 ∷ [])
     ∷ []
 
 -- "Raw depth 8 is one byte a sample; deeper raw samples are packed at depth bits, highest bit first. Bytes left over are ignored."
 unfoldable pub raws : List Known
 raws =
-    -- *
+    -- * "Raw depth 10, bytes FF C0 00: 1023, 0."
     ("depth 10, FF C0 00" of rawSamples 10 (0xFF ∷ 0xC0 ∷ 0x00 ∷ []) 2 is 1023 ∷ 0 ∷ [])
     ∷ ("depth 8" of rawSamples 8 (0xFF ∷ 0xC0 ∷ 0x00 ∷ []) 2 is 255 ∷ 192 ∷ [])
     ∷ ("depth 12" of rawSamples 12 (0xAB ∷ 0xCD ∷ 0xEF ∷ 0xFF ∷ []) 2 is 0xABC ∷ 0xDEF ∷ [])
@@ -475,7 +477,7 @@ places =
 unfoldable pub tiny : List ℕ
 tiny = replicate 32 0 ++ (0x00 ∷ 0x00 ∷ 0x00 ∷ 0x00 ∷ 0x0A ∷ 0x00 ∷ 0x00 ∷ 0x00 ∷ 0x01 ∷ 0x00 ∷ 0x01 ∷ 0x01 ∷ 0x07 ∷ 0x05 ∷ [])
 
-unfoldable pub tinySays : List ℕ → List ℕ
+unfoldable pub tinySays : (frame : Bytes) → List ℕ
 tinySays frame = decode8 frame (plain Gray 2 1 1) (wordless 1) 2 1
 
 -- "planes 7, 12. Cut to 45: refusal 12. Predictor byte 0: 15. Entry 1 of 7 or 8: 6; of 9: 6. Count byte 2: 7."
@@ -509,12 +511,13 @@ unfoldable pub colours : List ℕ
 colours = frameOf (3 ∷ 1 ∷ 2 ∷ 0 ∷ []) ((1 ∷ 1 ∷ 10 ∷ []) ∷ (1 ∷ 1 ∷ 250 ∷ []) ∷ (1 ∷ 1 ∷ 5 ∷ []) ∷ [])
 
 -- the answer with some bytes changed, all lengths zero and exactly the workspace that this needs
-unfoldable pub coloursSay : List ℕ → List ℕ
+unfoldable pub coloursSay : (frame : Bytes) → List ℕ
 coloursSay frame = answer8 frame (plain Rgb 1 1 1) (wordless 3) 3 3
 
 -- "Rgb and Rgba wire order is B', G, R', (A); B and R are B'+G and R'+G modulo 2^depth. The plane buffer holds G, B, R, (A)."
 unfoldable pub order : List Known
 order =
+    -- the slips are "Assuming plane-major slices instead of the indices" and "Giving B first in the output"
     ("slices that name G, R', B'" of decode8 colours (plain Rgb 1 1 1) (wordless 3) 3 3 is done ++ (10 ∷ 15 ∷ 4 ∷ 0 ∷ 0 ∷ 0 ∷ []))
     ∷ ("slices in plane order" of planesAfter Eight (frameOf (3 ∷ 0 ∷ 1 ∷ 2 ∷ []) ((1 ∷ 1 ∷ 10 ∷ []) ∷ (1 ∷ 1 ∷ 250 ∷ []) ∷ (1 ∷ 1 ∷ 5 ∷ []) ∷ [])) (plain Rgb 1 1 1) (wordless 3) (9 ∷ 9 ∷ 9 ∷ []) 3 is 250 ∷ 4 ∷ 255 ∷ [])
     ∷ []
@@ -542,6 +545,7 @@ preambles =
 -- 8: "index not below P, or that plane already has K slices", at the "first such slice"
 unfoldable pub indices : List Known
 indices =
+    -- "Rgb, K = 1, indices 0,0,1: refusal 8 at slice 1."
     ("Rgb, K = 1, indices 0,0,1: 8 at slice 1" of coloursSay (set (set (set colours 49 0) 50 0) 51 1) is atSlice 8 1)
     ∷ ("index 3 at slice 1" of coloursSay (set colours 50 3) is atSlice 8 1)
     ∷ ("index 255 at slice 2" of coloursSay (set colours 51 255) is atSlice 8 2)
@@ -753,10 +757,10 @@ codedColours =
 -- ---- depths 10, 12 and 14
 
 -- what the deep entry leaves in the planes, which held 9 everywhere, for a frame of one raw slice; and what it says
-unfoldable pub deepFrame : ℕ → List ℕ → List ℕ
+unfoldable pub deepFrame : (kind : ℕ) (bytes : Bytes) → Bytes
 deepFrame kind bytes = frameOf (1 ∷ 0 ∷ []) ((1 ∷ kind ∷ bytes) ∷ [])
 
-unfoldable pub deepPlanes : ℕ → ℕ → ℕ → ℕ → ℕ → List ℕ → List ℕ
+unfoldable pub deepPlanes : (depth lengths w h kind : ℕ) (bytes : Bytes) → List ℕ
 deepPlanes depth lengths w h kind bytes =
     planesAfter Deep (deepFrame kind bytes) (shape Gray w h h 1 1 depth false) (replicate lengths 0) (replicate (w * h) 9) 1
 
@@ -786,7 +790,7 @@ deepColours =
 
 -- ---- small words, and a slice as one record
 
-unfoldable pub listed : SliceAt → List ℕ
+unfoldable pub listed : (a : SliceAt) → List ℕ
 listed a =
     a .number ∷ a .plane ∷ a .place ∷ a .first ∷ a .rows ∷ a .width ∷ a .start ∷ a .end ∷ one (a .raw) ∷ a .predictor ∷ []
 

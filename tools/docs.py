@@ -10,7 +10,8 @@
   (a crate, a path, a file of crates/scope/specs), or `in` and a path, it stands there.
 - The numbers of crates, edits, public functions, tests, slips, wrong decoders, formats and stored cases are today's, and README.md's output of
   demo is what crates/demo/stdout has.
-- docs/RED.md's tables of edits of definitions have every edit of those crates.
+- docs/RED.md's tables of edits of definitions have every edit of those crates; every line of tools/equal_changes.txt stands in the file that it names, under a
+  comment with its reason.
 - The picture of the crates and the table of `requires` are what tools/picture.py and tools/statements.py make of the sources.
 Notes of a landing (docs/landings/) speak of their day: of them only the paths are checked.
 
@@ -187,6 +188,22 @@ def rows(text):
     return found
 
 
+def equal_changes():
+    """tools/equal_changes.txt: a line `file | change | line` is of a line of crates/scope/specs, and a reason stands above its group."""
+    found, reason = [], False
+    for line in (ROOT / "tools/equal_changes.txt").read_text().splitlines():
+        if line.startswith("#") or not line:
+            reason = bool(line)
+            continue
+        name, _, code = (line.split(" | ", 2) + ["", ""])[:3]
+        file = ROOT / "crates/scope/specs" / name
+        if not file.exists() or code not in map(str.strip, file.read_text().splitlines()):
+            found.append(f"no such line: {line}")
+        if not reason:
+            found.append(f"no reason above: {line}")
+    return found
+
+
 def unnamed():
     text = (ROOT / "docs/RED.md").read_text() + (ROOT / "docs/ARCHITECTURE.md").read_text()
     there = [(p.parts[-3], p.stem) for p in sorted((ROOT / "crates").glob("*/must-fail/*.edit"))]
@@ -217,6 +234,7 @@ def main():
         if page.name == "RED.md":
             found += rows(text)
         wrong += [f"{page.relative_to(ROOT)}: {what}" for what in found]
+    wrong += [f"tools/equal_changes.txt: {what}" for what in equal_changes()]
     for tool in (["picture.py"], ["statements.py", "--page"]):
         ran = subprocess.run([sys.executable, ROOT / "tools" / tool[0], *tool[1:]], capture_output=True, text=True)
         wrong += (ran.stdout + ran.stderr).splitlines()

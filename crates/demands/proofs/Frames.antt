@@ -20,8 +20,8 @@ use Rattle.refusals.proofs.Rows.{every-answer, every-one}
 use Rattle.places.specs.Picture.{Pictured}
 use Rattle.places.proofs.Picture.{pictured}
 use Rattle.magicyuv.specs.declared.Reply.{Reply}
-use Rattle.magicyuv.specs.Boundary.{Numbers, numbersFit, geometryOf, hostAnswer, Hosted}
-use Rattle.demands.specs.Demand.{FrameCall, tableFor, pictureFor, replyTo, Demand1, LentAlike, Forgotten, Demand2, hosted, FrameEntry, decode8, decode16, magicyuv-decode8, magicyuv-decode16, FrameAllowed, frameCall}
+use Rattle.magicyuv.specs.Boundary.{replyTo, Numbers, numbersFit, geometryOf, hostAnswer, Hosted}
+use Rattle.demands.specs.Demand.{FrameCall, tableFor, pictureFor, Demand1, LentAlike, Forgotten, Demand2, hosted, FrameEntry, decode8, decode16, magicyuv-decode8, magicyuv-decode16, FrameAllowed, frameCall}
 use Rattle.demands.proofs.Replies.{Numbered, says-reply, reply-done, by-table, left-done, left-found, left-cleared}
 
 -- what a contract says of a call, in the call's own names

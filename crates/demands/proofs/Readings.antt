@@ -22,7 +22,8 @@ use Rattle.codes.proofs.Longest.{longest-most}
 use Rattle.codes.proofs.Chains.{chain-exactly, one-chain}
 use Rattle.alone.proofs.Building.{Good, good, answer-done}
 use Rattle.magicyuv.specs.declared.Reply.{Reply}
-use Rattle.demands.specs.Demand.{replyTo, ReadCall, ChainOf, Demand3Reading, ReadingsAlike, ReadingForgotten, ReadEntry, read, magicyuv-read, ReadAllowed, readCall}
+use Rattle.magicyuv.specs.Boundary.{replyTo}
+use Rattle.demands.specs.Demand.{ReadCall, ChainOf, Demand3Reading, ReadingsAlike, ReadingForgotten, ReadEntry, read, magicyuv-read, ReadAllowed, readCall}
 use Rattle.demands.proofs.Replies.{Numbered, says-reply, reply-done, by-table, left-done, left-found, left-cleared}
 use Rattle.demands.proofs.Tables.{build-numbers}
 

@@ -13,9 +13,9 @@ use Rattle.scope.proofs.Table.{planes-when, exactly-when}
 use Rattle.refusals.specs.Rows.{Every}
 use Rattle.refusals.proofs.Rows.{every-refused}
 use Rattle.magicyuv.specs.declared.Reply.{Reply}
-use Rattle.magicyuv.specs.Boundary.{Says}
+use Rattle.magicyuv.specs.Boundary.{replyTo, Says}
 use Rattle.magicyuv.proofs.Once.{says-once}
-use Rattle.demands.specs.Demand.{replyTo, ByTable}
+use Rattle.demands.specs.Demand.{ByTable}
 
 -- a number of document 01's table
 abbrev pub Numbered : ℕ → Place → Type 0

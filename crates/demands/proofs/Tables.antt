@@ -23,7 +23,8 @@ use Rattle.codes.proofs.Table.{table-length}
 use Rattle.codes.proofs.Lookup.{looks-behind}
 use Rattle.alone.proofs.Building.{Good, good, answer-done, by-tests}
 use Rattle.magicyuv.specs.declared.Reply.{Reply}
-use Rattle.demands.specs.Demand.{replyTo, TableCall, LookupCall, Demand3Table, TablesAlike, TableForgotten, Usable, TableEntry, build, magicyuv-build, TableAllowed, tableCall, Lookup, lookupCall}
+use Rattle.magicyuv.specs.Boundary.{replyTo}
+use Rattle.demands.specs.Demand.{TableCall, LookupCall, Demand3Table, TablesAlike, TableForgotten, Usable, TableEntry, build, magicyuv-build, TableAllowed, tableCall, Lookup, lookupCall}
 use Rattle.demands.proofs.Replies.{Numbered, says-reply, reply-done, by-table, left-done, left-found}
 
 -- what a contract says of a call, in the call's own names

@@ -14,7 +14,7 @@ use borrow.Fn.World.{ArgsD, ResD}
 use denote.Triple.Clauses.{AtExit}
 use denote.Ref.{now}
 use Rattle.scope.specs.Base.{Bytes, Lengths, Samples, Words, zeros}
-use Rattle.scope.specs.Refusals.{numberOf, placeOf, kindNumber, placeNumber, Row, row, firstOf, NoneApplies, FirstApplies}
+use Rattle.scope.specs.Refusals.{Row, row, firstOf, NoneApplies, FirstApplies}
 use Rattle.scope.specs.Geometry.{allSamples}
 use Rattle.scope.specs.Words.{shares, need, longest, lengthOf, wordOf, Begins, Spells}
 use Rattle.scope.specs.Frame.{table, pictureOf}
@@ -26,11 +26,10 @@ use Rattle.scope.specs.declared.Place.{Place}
 use Rattle.scope.specs.declared.Place.the-variants.{Nothing}
 use Rattle.scope.specs.declared.Found.{Found}
 use Rattle.scope.specs.declared.Found.the-variants.{Word, NoWord}
-use Rattle.scope.specs.declared.Answer.{Answer}
 use Rattle.scope.specs.declared.Answer.the-variants.{Done, Refused}
 use Rattle.places.specs.Picture.{AllStand, Pictured}
 use Rattle.magicyuv.specs.declared.Reply.{Reply}
-use Rattle.magicyuv.specs.Boundary.{Numbers, numbers, numbersFit, geometryOf, Says}
+use Rattle.magicyuv.specs.Boundary.{Numbers, numbers, numbersFit, geometryOf, replyTo, Says}
 use Rattle.decode8.proofs.decode8 as entry8
 use Rattle.decode8.proofs.decode8.Reads as entry8-reads
 use Rattle.decode16.proofs.decode16 as entry16
@@ -52,10 +51,8 @@ use Rattle.magicyuv.proofs.magicyuv_read.Reads as host-read-reads
 
 -- ---- what a call is
 
--- An answer as the host gets it: document 01's number, 0 where nothing is refused; the kind of its place, 0 nothing, 1 a slice, 2 a plane; and which
--- one. The exported functions reply this; of the others it is what their answer says.
-abbrev pub replyTo : (answer : Answer) → Reply
-replyTo a = record { number = numberOf a; kind = kindNumber (placeOf a); place = placeNumber (placeOf a) }
+-- An answer is put as the host gets it, a `Reply` of three numbers: document 01's number, 0 where nothing is refused; the kind of its place, 0
+-- nothing, 1 a slice, 2 a plane; and which one. The exported functions reply this; of the others it is what their answer says (`replyTo`).
 
 -- a call of a frame entry: what was lent to it, as it was found; what it replied; what it left
 pub record FrameCall : Type 0 where

@@ -63,6 +63,11 @@ hostAnswer which frame n lengths planesLen workspaceLen =
     let entry : Answer = answerOf which frame (geometryOf n) lengths planesLen workspaceLen in
     refuseIf (not (numbersFit n)) 1 Nothing andThen entry
 
+-- the three numbers that an answer crosses as: its number, 0 where nothing is refused; the kind of its place, 0 nothing, 1 a slice, 2 a plane; and which
+-- one
+abbrev pub replyTo : (answer : Answer) → Reply
+replyTo a = record { number = numberOf a; kind = kindNumber (placeOf a); place = placeNumber (placeOf a) }
+
 -- the reply says the answer's number, the kind of its place (0 nothing, 1 a slice, 2 a plane), and which one
 pub record Says (a : Answer) (r : Reply) : Type 0 where
   pub number : r .number ≡ numberOf a

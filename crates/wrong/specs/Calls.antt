@@ -7,7 +7,6 @@ use mathlib.Core.List.{List, [], _∷_}
 use lib.ListN.{length}
 use lib.Dec.{T, ltb}
 use Rattle.scope.specs.Base.{Bytes, Lengths, Samples, Words, one}
-use Rattle.scope.specs.Refusals.{numberOf, placeOf, kindNumber, placeNumber}
 use Rattle.scope.specs.Frame.{answerOf, planesAfter, workspaceAfter, Decoded}
 use Rattle.scope.specs.Alone.{buildAnswer, workspaceBuilt, BuiltAlone, readAnswer, samplesRead, workspaceRead, ReadAlone}
 use Rattle.scope.specs.declared.Entry.{Entry}
@@ -16,8 +15,7 @@ use Rattle.scope.specs.declared.Family.{Family}
 use Rattle.scope.specs.declared.Family.the-variants.{Gray, Rgb, Yuv, Rgba, Yuva}
 use Rattle.scope.specs.declared.Geometry.{Geometry}
 use Rattle.scope.specs.declared.Answer.{Answer}
-use Rattle.magicyuv.specs.Boundary.{Numbers, numbers, Hosted, BuiltFor, ReadFor}
-use Rattle.magicyuv.specs.declared.Reply.{Reply}
+use Rattle.magicyuv.specs.Boundary.{Numbers, numbers, Hosted, BuiltFor, ReadFor, replyTo}
 
 -- ---- a frame
 
@@ -91,14 +89,10 @@ abbrev pub numbersOf : (g : Geometry) → Numbers
 numbersOf g =
     numbers (g .width) (g .height) (g .«slice_height») (familyNumber (g .family)) (g .sx) (g .sy) (g .depth) (one (g .interlaced))
 
--- an answer as the three numbers that cross
-abbrev pub replyOf : (answer : Answer) → Reply
-replyOf a = record { number = numberOf a; kind = kindNumber (placeOf a); place = placeNumber (placeOf a) }
-
 -- a decoder meets the statement of the exported frame entries
 abbrev pub MeetsHosted : (D : Decoder) → Type 0
 MeetsHosted D =
-    WhateverIsLent (λ l. Hosted (l .which) (l .frame) (numbersOf (l .geometry)) (l .lengths) (l .planes) (l .workspace) (replyOf (D l .answer)) (D l .planes) (D l .workspace))
+    WhateverIsLent (λ l. Hosted (l .which) (l .frame) (numbersOf (l .geometry)) (l .lengths) (l .planes) (l .workspace) (replyTo (D l .answer)) (D l .planes) (D l .workspace))
 
 -- a decoder is out: it meets neither
 pub record Out (D : Decoder) : Type 0 where
@@ -129,7 +123,7 @@ Builds B =
 
 abbrev pub BuildsHosted : (B : Builder) → Type 0
 BuildsHosted B =
-    WhateverIsLentToBuild (λ ls workspace. BuiltFor ls workspace (replyOf (B ls workspace .answer)) (B ls workspace .workspace))
+    WhateverIsLentToBuild (λ ls workspace. BuiltFor ls workspace (replyTo (B ls workspace .answer)) (B ls workspace .workspace))
 
 pub record OutBuilder (B : Builder) : Type 0 where
   pub alone : Builds B → ⊥
@@ -165,7 +159,7 @@ Reads R =
 abbrev pub ReadsHosted : (R : Reader) → Type 0
 ReadsHosted R =
     (ls : Lengths) (payload : Bytes) (workspace : Words) (samples : Samples) → T (lentToRead ls payload workspace samples)
-    → ReadFor ls payload workspace samples (replyOf (R ls payload workspace samples .answer)) (R ls payload workspace samples .workspace) (R ls payload workspace samples .samples)
+    → ReadFor ls payload workspace samples (replyTo (R ls payload workspace samples .answer)) (R ls payload workspace samples .workspace) (R ls payload workspace samples .samples)
 
 pub record OutReader (R : Reader) : Type 0 where
   pub alone : Reads R → ⊥

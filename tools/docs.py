@@ -10,14 +10,14 @@
   (a crate, a path, a file of crates/scope/specs), or `in` and a path, it stands there.
 - The numbers of crates, edits, public functions, tests, slips, wrong decoders, formats and stored cases are today's, and README.md's output of
   demo is what crates/demo/stdout has.
+- Every edit is named in docs/RED.md or docs/ARCHITECTURE.md.
 - docs/RED.md's tables of edits of definitions have every edit of those crates; every line of tools/equal_changes.txt stands in the file that it names, under a
   comment with its reason.
 - The picture of the crates and the table of `requires` are what tools/picture.py and tools/statements.py make of the sources.
 Notes of a landing (docs/landings/) speak of their day: of them only the paths are checked.
 
 Usage, at the repository's root:
-  python3 tools/docs.py              prints what is not so; status 1 if anything is not
-  python3 tools/docs.py --unnamed    prints the edits that neither docs/RED.md nor docs/ARCHITECTURE.md names
+  python3 tools/docs.py    prints what is not so; status 1 if anything is not
 """
 import re
 import subprocess
@@ -205,11 +205,10 @@ def equal_changes():
 
 
 def unnamed():
+    """The edits that neither docs/RED.md nor docs/ARCHITECTURE.md names."""
     text = (ROOT / "docs/RED.md").read_text() + (ROOT / "docs/ARCHITECTURE.md").read_text()
     there = [(p.parts[-3], p.stem) for p in sorted((ROOT / "crates").glob("*/must-fail/*.edit"))]
-    without = [f"{c}/{e}" for c, e in there if not re.search(rf"\b{c}/{e}\b", text) and not (c == "scope" and f"\n| {e} |" in text)]
-    print("\n".join(without + [f"{len(without)} of {len(there)} edits are not named"]))
-    return 0
+    return [f"{c}/{e}" for c, e in there if not re.search(rf"\b{c}/{e}\b", text) and not (c == "scope" and f"\n| {e} |" in text)]
 
 
 def shown(text):
@@ -220,8 +219,6 @@ def shown(text):
 
 
 def main():
-    if "--unnamed" in sys.argv:
-        return unnamed()
     wrong, words, today = [], known(), counts()
     there = {p.name for folder in ("crates", "host", "tools") for p in (ROOT / folder).rglob("*")}
     for page in pages():
@@ -234,6 +231,7 @@ def main():
         if page.name == "RED.md":
             found += rows(text)
         wrong += [f"{page.relative_to(ROOT)}: {what}" for what in found]
+    wrong += [f"no page names the edit {e}" for e in unnamed()]
     wrong += [f"tools/equal_changes.txt: {what}" for what in equal_changes()]
     for tool in (["picture.py"], ["statements.py", "--page"]):
         ran = subprocess.run([sys.executable, ROOT / "tools" / tool[0], *tool[1:]], capture_output=True, text=True)

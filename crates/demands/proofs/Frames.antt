@@ -21,7 +21,7 @@ use Rattle.places.specs.Picture.{Pictured}
 use Rattle.places.proofs.Picture.{pictured}
 use Rattle.magicyuv.specs.declared.Reply.{Reply}
 use Rattle.magicyuv.specs.Boundary.{replyTo, Numbers, numbersFit, geometryOf, hostAnswer, Hosted}
-use Rattle.demands.specs.Demand.{FrameCall, tableFor, pictureFor, Demand1, LentAlike, Forgotten, Demand2, hosted, FrameEntry, decode8, decode16, magicyuv-decode8, magicyuv-decode16, FrameAllowed, frameCall}
+use Rattle.demands.specs.Demand.{FrameCall, tableFor, pictureFor, Demand1, LentAlike, Forgotten, Demand2, decoded, hosted, FrameEntry, decode8, decode16, magicyuv-decode8, magicyuv-decode16, FrameAllowed, frameCall}
 use Rattle.demands.proofs.Replies.{Numbered, says-reply, reply-done, by-table, left-done, left-found, left-cleared}
 
 -- what a contract says of a call, in the call's own names
@@ -39,23 +39,8 @@ module _ (which : Entry) (frame : List ℕ) (g : Geometry) (lengths planes₀ wo
   unfolding answerOf
   whole n = first-cons (row 1 Nothing (not n)) (table which frame g lengths (length planes₀) (length workspace₀))
 
-  decoded-call : Answer → List ℕ → List ℕ → FrameCall
-  decoded-call r planes₁ workspace₁ =
-      record {
-        which = which;
-        named = true;
-        frame = frame;
-        geometry = g;
-        lengths = lengths;
-        planes₀ = planes₀;
-        workspace₀ = workspace₀;
-        reply = replyTo r;
-        planes₁ = planes₁;
-        workspace₁ = workspace₁;
-      }
-
-  decoded-stated : (r : Answer) (planes₁ workspace₁ : List ℕ) → Decoded which frame g lengths planes₀ workspace₀ r planes₁ workspace₁ → Stated (decoded-call r planes₁ workspace₁)
-  unfolding decoded-call planesAfter workspaceAfter
+  decoded-stated : (r : Answer) (planes₁ workspace₁ : List ℕ) → Decoded which frame g lengths planes₀ workspace₀ r planes₁ workspace₁ → Stated (decoded which frame g lengths planes₀ workspace₀ r planes₁ workspace₁)
+  unfolding planesAfter workspaceAfter
   decoded-stated r planes₁ workspace₁ d =
       record {
         reply = ap replyTo (d .answer ∙ sym (whole true));
@@ -75,7 +60,6 @@ hosted-stated which frame n lengths planes₀ workspace₀ r planes₁ workspace
     }
 
 pub stated : (f : FrameEntry) (c : FrameAllowed f) → Stated (frameCall f c)
-unfolding decoded-call
 stated decode8 c = decoded-stated _ _ _ _ _ _ _ _ _ (c .allowed)
 stated decode16 c = decoded-stated _ _ _ _ _ _ _ _ _ (c .allowed)
 stated magicyuv-decode8 c = hosted-stated _ _ _ _ _ _ _ _ _ (c .allowed)

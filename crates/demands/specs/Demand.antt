@@ -11,7 +11,7 @@ use mathlib.Core.List.{List, _∷_}
 use lib.ListN.{length, take, drop, getD}
 use contract.Lifetimes.{Lfts}
 use borrow.Fn.World.{ArgsD, ResD}
-use denote.Triple.Clauses.{AtExit}
+use denote.Triple.Clauses.{Ended, AtExit}
 use denote.Ref.{now}
 use Rattle.scope.specs.Base.{Bytes, Lengths, Samples, Words, zeros}
 use Rattle.scope.specs.Refusals.{Row, row, firstOf, NoneApplies, FirstApplies}
@@ -26,6 +26,7 @@ use Rattle.scope.specs.declared.Place.{Place}
 use Rattle.scope.specs.declared.Place.the-variants.{Nothing}
 use Rattle.scope.specs.declared.Found.{Found}
 use Rattle.scope.specs.declared.Found.the-variants.{Word, NoWord}
+use Rattle.scope.specs.declared.Answer.{Answer}
 use Rattle.scope.specs.declared.Answer.the-variants.{Done, Refused}
 use Rattle.places.specs.Picture.{AllStand, Pictured}
 use Rattle.magicyuv.specs.declared.Reply.{Reply}
@@ -244,6 +245,17 @@ pub record ReadingForgotten (c d : ReadCall) : Type 0 where
 -- ---- the calls that the contracts allow: `Post` is the plain reading that Rattle itself makes of the `ensures` clauses of src/, so nothing here goes
 -- by another copy of a contract
 
+-- A call of a function, with what its contract allows it to answer and to leave. T is the function's signature, with its parameters as they are at
+-- its exit.
+pub record Allowed (T : Ended) (Post : (κs : Lfts (T .signature .lifetimes)) → ArgsD (T .signature) κs → ResD (T .signature) κs → AtExit T κs → Type 0) : Type 1 where
+  pub lifetimes : Lfts (T .signature .lifetimes)
+  pub lent : ArgsD (T .signature) lifetimes
+  pub answer : ResD (T .signature) lifetimes
+  pub left : AtExit T lifetimes
+  pub allowed : Post lifetimes lent answer left
+
+-- ---- frames
+
 pub data FrameEntry : Type 0 where
   decode8 : FrameEntry
   decode16 : FrameEntry
@@ -251,33 +263,17 @@ pub data FrameEntry : Type 0 where
   magicyuv-decode16 : FrameEntry
 
 -- the calls that their contracts allow
-pub record Decode8 : Type 1 where
-  pub lifetimes : Lfts 4
-  pub lent : ArgsD entry8.signature lifetimes
-  pub answer : ResD entry8.signature lifetimes
-  pub left : AtExit entry8.ended lifetimes
-  pub allowed : entry8-reads.Post lifetimes lent answer left
+abbrev pub Decode8 : Type 1
+Decode8 = Allowed entry8.ended entry8-reads.Post
 
-pub record Decode16 : Type 1 where
-  pub lifetimes : Lfts 4
-  pub lent : ArgsD entry16.signature lifetimes
-  pub answer : ResD entry16.signature lifetimes
-  pub left : AtExit entry16.ended lifetimes
-  pub allowed : entry16-reads.Post lifetimes lent answer left
+abbrev pub Decode16 : Type 1
+Decode16 = Allowed entry16.ended entry16-reads.Post
 
-pub record Host8 : Type 1 where
-  pub lifetimes : Lfts 4
-  pub lent : ArgsD host8.signature lifetimes
-  pub answer : ResD host8.signature lifetimes
-  pub left : AtExit host8.ended lifetimes
-  pub allowed : host8-reads.Post lifetimes lent answer left
+abbrev pub Host8 : Type 1
+Host8 = Allowed host8.ended host8-reads.Post
 
-pub record Host16 : Type 1 where
-  pub lifetimes : Lfts 4
-  pub lent : ArgsD host16.signature lifetimes
-  pub answer : ResD host16.signature lifetimes
-  pub left : AtExit host16.ended lifetimes
-  pub allowed : host16-reads.Post lifetimes lent answer left
+abbrev pub Host16 : Type 1
+Host16 = Allowed host16.ended host16-reads.Post
 
 abbrev pub FrameAllowed : (f : FrameEntry) → Type 1
 FrameAllowed decode8 = Decode8
@@ -285,37 +281,21 @@ FrameAllowed decode16 = Decode16
 FrameAllowed magicyuv-decode8 = Host8
 FrameAllowed magicyuv-decode16 = Host16
 
--- their parameters in order, by name
-module _ (κs : Lfts 4) where
-  abbrev pub call8 : (a : ArgsD entry8.signature κs) (r : ResD entry8.signature κs) (s : AtExit entry8.ended κs) → FrameCall
-  call8 (frame, (geometry, (lengths, (planes, (workspace, end))))) r (frame′, (geometry′, (lengths′, (planes′, (workspace′, end′))))) =
-      record {
-        which = Eight;
-        named = true;
-        frame = now frame;
-        geometry = geometry;
-        lengths = now lengths;
-        planes₀ = now planes;
-        workspace₀ = now workspace;
-        reply = replyTo r;
-        planes₁ = now planes′;
-        workspace₁ = now workspace′;
-      }
-
-  abbrev pub call16 : (a : ArgsD entry16.signature κs) (r : ResD entry16.signature κs) (s : AtExit entry16.ended κs) → FrameCall
-  call16 (frame, (geometry, (lengths, (planes, (workspace, end))))) r (frame′, (geometry′, (lengths′, (planes′, (workspace′, end′))))) =
-      record {
-        which = Deep;
-        named = true;
-        frame = now frame;
-        geometry = geometry;
-        lengths = now lengths;
-        planes₀ = now planes;
-        workspace₀ = now workspace;
-        reply = replyTo r;
-        planes₁ = now planes′;
-        workspace₁ = now workspace′;
-      }
+-- a call of an entry, from its geometry
+abbrev pub decoded : (which : Entry) (frame : Bytes) (g : Geometry) (lengths : Lengths) (planes₀ : Samples) (workspace₀ : Words) (answer : Answer) (planes₁ : Samples) (workspace₁ : Words) → FrameCall
+decoded which frame g lengths planes₀ workspace₀ answer planes₁ workspace₁ =
+    record {
+      which = which;
+      named = true;
+      frame = frame;
+      geometry = g;
+      lengths = lengths;
+      planes₀ = planes₀;
+      workspace₀ = workspace₀;
+      reply = replyTo answer;
+      planes₁ = planes₁;
+      workspace₁ = workspace₁;
+    }
 
 -- a call of an exported entry, from the numbers of its geometry
 abbrev pub hosted : (which : Entry) (frame : Bytes) (n : Numbers) (lengths : Lengths) (planes₀ : Samples) (workspace₀ : Words) (reply : Reply) (planes₁ : Samples) (workspace₁ : Words) → FrameCall
@@ -333,7 +313,16 @@ hosted which frame n lengths planes₀ workspace₀ reply planes₁ workspace₁
       workspace₁ = workspace₁;
     }
 
+-- the parameters of each in order, by name
 module _ (κs : Lfts 4) where
+  abbrev pub call8 : (a : ArgsD entry8.signature κs) (r : ResD entry8.signature κs) (s : AtExit entry8.ended κs) → FrameCall
+  call8 (frame, (g, (lengths, (planes, (workspace, end))))) r (frame′, (g′, (lengths′, (planes′, (workspace′, end′))))) =
+      decoded Eight (now frame) g (now lengths) (now planes) (now workspace) r (now planes′) (now workspace′)
+
+  abbrev pub call16 : (a : ArgsD entry16.signature κs) (r : ResD entry16.signature κs) (s : AtExit entry16.ended κs) → FrameCall
+  call16 (frame, (g, (lengths, (planes, (workspace, end))))) r (frame′, (g′, (lengths′, (planes′, (workspace′, end′))))) =
+      decoded Deep (now frame) g (now lengths) (now planes) (now workspace) r (now planes′) (now workspace′)
+
   abbrev pub callHost8 : (a : ArgsD host8.signature κs) (r : ResD host8.signature κs) (s : AtExit host8.ended κs) → FrameCall
   callHost8 (frame, (lengths, (planes, (workspace, (w, (h, (sh, (f, (sx, (sy, (d, (i, end)))))))))))) r (frame′, (lengths′, (planes′, (workspace′, end′)))) =
       hosted Eight (now frame) (numbers w h sh f sx sy d i) (now lengths) (now planes) (now workspace) r (now planes′) (now workspace′)
@@ -352,19 +341,11 @@ pub data TableEntry : Type 0 where
   build : TableEntry
   magicyuv-build : TableEntry
 
-pub record Build : Type 1 where
-  pub lifetimes : Lfts 2
-  pub lent : ArgsD building.signature lifetimes
-  pub answer : ResD building.signature lifetimes
-  pub left : AtExit building.ended lifetimes
-  pub allowed : building-reads.Post lifetimes lent answer left
+abbrev pub Build : Type 1
+Build = Allowed building.ended building-reads.Post
 
-pub record HostBuild : Type 1 where
-  pub lifetimes : Lfts 2
-  pub lent : ArgsD host-build.signature lifetimes
-  pub answer : ResD host-build.signature lifetimes
-  pub left : AtExit host-build.ended lifetimes
-  pub allowed : host-build-reads.Post lifetimes lent answer left
+abbrev pub HostBuild : Type 1
+HostBuild = Allowed host-build.ended host-build-reads.Post
 
 abbrev pub TableAllowed : (f : TableEntry) → Type 1
 TableAllowed build = Build
@@ -383,12 +364,8 @@ abbrev pub tableCall : (f : TableEntry) (c : TableAllowed f) → TableCall
 tableCall build c = callBuild (c .lifetimes) (c .lent) (c .answer) (c .left)
 tableCall magicyuv-build c = callHostBuild (c .lifetimes) (c .lent) (c .answer) (c .left)
 
-pub record Lookup : Type 1 where
-  pub lifetimes : Lfts 2
-  pub lent : ArgsD looking.signature lifetimes
-  pub answer : ResD looking.signature lifetimes
-  pub left : AtExit looking.ended lifetimes
-  pub allowed : looking-reads.Post lifetimes lent answer left
+abbrev pub Lookup : Type 1
+Lookup = Allowed looking.ended looking-reads.Post
 
 abbrev pub callLookup : (κs : Lfts 2) (a : ArgsD looking.signature κs) (r : ResD looking.signature κs) → LookupCall
 callLookup κs (words, (m, (payload, (at, end)))) r = record { words = now words; longest = m; payload = now payload; at = at; found = r }
@@ -400,19 +377,11 @@ pub data ReadEntry : Type 0 where
   read : ReadEntry
   magicyuv-read : ReadEntry
 
-pub record Read : Type 1 where
-  pub lifetimes : Lfts 4
-  pub lent : ArgsD reading.signature lifetimes
-  pub answer : ResD reading.signature lifetimes
-  pub left : AtExit reading.ended lifetimes
-  pub allowed : reading-reads.Post lifetimes lent answer left
+abbrev pub Read : Type 1
+Read = Allowed reading.ended reading-reads.Post
 
-pub record HostRead : Type 1 where
-  pub lifetimes : Lfts 4
-  pub lent : ArgsD host-read.signature lifetimes
-  pub answer : ResD host-read.signature lifetimes
-  pub left : AtExit host-read.ended lifetimes
-  pub allowed : host-read-reads.Post lifetimes lent answer left
+abbrev pub HostRead : Type 1
+HostRead = Allowed host-read.ended host-read-reads.Post
 
 abbrev pub ReadAllowed : (f : ReadEntry) → Type 1
 ReadAllowed read = Read

@@ -7,13 +7,13 @@ use borrow.Author.Tests.{le-ltb}
 use lib.Dec.{ltb}
 use lib.ListN.{length, replicate}
 use Rattle.scope.specs.Base.{zeros}
-use Rattle.scope.specs.Refusals.{numberOf, firstOf, refuseIf, _andThen_}
+use Rattle.scope.specs.Refusals.{numberOf, placeOf, kindNumber, placeNumber, firstOf, refuseIf, _andThen_}
 use Rattle.scope.specs.Words.{longest, shares, need, Chain, symbols, stuckAt, chain, symbolsOf}
 use Rattle.scope.specs.Pieces.{readable}
 use Rattle.scope.specs.Alone.{buildAnswer, readRowsAlone, readAnswer, samplesRead, workspaceRead}
-use Rattle.scope.specs.declared.Place.the-variants.{Nothing}
+use Rattle.scope.specs.declared.Place.the-variants.{Plane, Nothing}
 use Rattle.scope.specs.declared.Answer.{Answer}
-use Rattle.scope.specs.declared.Answer.the-variants.{Done}
+use Rattle.scope.specs.declared.Answer.the-variants.{Done, Refused}
 use Rattle.scope.proofs.Table.{read-in-pieces}
 use Rattle.refusals.specs.Rows.{Every}
 use Rattle.refusals.proofs.InOrder.{first-passed, then-passed}
@@ -22,8 +22,8 @@ use Rattle.codes.proofs.Longest.{longest-most}
 use Rattle.codes.proofs.Chains.{chain-exactly, one-chain}
 use Rattle.alone.proofs.Building.{Good, good, answer-done}
 use Rattle.magicyuv.specs.declared.Reply.{Reply}
-use Rattle.magicyuv.specs.Boundary.{replyTo}
-use Rattle.demands.specs.Demand.{ReadCall, ChainOf, Demand3Reading, ReadingsAlike, ReadingForgotten, ReadEntry, read, magicyuv-read, ReadAllowed, readCall}
+use Rattle.magicyuv.specs.Boundary.{replyTo, Says}
+use Rattle.demands.specs.Demand.{ReadCall, InCaps, ChainOf, Demand3Reading, ReadingsAlike, ReadingForgotten, ReadEntry, read, magicyuv-read, ReadAllowed, readCall}
 use Rattle.demands.proofs.Replies.{Numbered, says-reply, reply-done, by-table, left-done, left-found, left-cleared}
 use Rattle.demands.proofs.Tables.{build-numbers}
 
@@ -75,6 +75,12 @@ module _ (ls payload : List ℕ) (n w : ℕ) where
   unfolding readable
   chain-read few small full room k ss e = read-in-pieces ls payload n w ∙ rw (le-ltb _ _ k, answer-done ls w few small full room, e) refl
 
+  -- with none it is 14 at plane 0
+  pub no-chain : length ls ≤ 16384 → longest ls ≤ 18 → shares ls ≤ 262144 → need ls ≤ w → n ≤ 268435456 → (at : ℕ) → chain ls payload 0 n ≡ stuckAt at
+      → readAnswer ls payload n w ≡ Refused 14 (Plane 0)
+  unfolding readable
+  no-chain few small full room k at e = read-in-pieces ls payload n w ∙ rw (le-ltb _ _ k, answer-done ls w few small full room, e) refl
+
 -- ---- demand 3
 
 module _ (c : ReadCall) (st : ReadStated c) where
@@ -123,6 +129,23 @@ module _ (c : ReadCall) (st : ReadStated c) where
         st .workspace ∙ left-cleared 11 (c .workspace₀) (zeros (c .workspace₀)) (zeros (c .workspace₀)) said a b,
       )
 
+  -- no chain
+  fails-at : InCaps (c .lengths) → shares (c .lengths) ≤ 262144 → need (c .lengths) ≤ length (c .workspace₀) → n ≤ 268435456
+      → (ch : Chain) → chain (c .lengths) (c .payload) 0 n ≡ ch → ((ss : List ℕ) → ChainOf (c .lengths) (c .payload) n ss → ⊥)
+      → Says (Refused 14 (Plane 0)) (c .reply) × ((c .samples₁ ≡ zeros (c .samples₀)) × (c .workspace₁ ≡ zeros (c .workspace₀)))
+  fails-at caps f r k (symbols ss) e h = absurd (h ss (chain-is ss e))
+  fails-at caps f r k (stuckAt at) e h =
+      let a : said ≡ Refused 14 (Plane 0) = no-chain (c .lengths) (c .payload) n (length (c .workspace₀)) (caps .few) (longest-most (c .lengths) 18 (caps .small)) f r k at e in
+      let b : c .reply ≡ replyTo said = unfold readAnswer in st .reply in
+      let m : c .reply .number ≡ 14 = number-is ∙ ap numberOf a in (
+        record {
+          number = m;
+          kind = ap (λ (x : Reply). x .kind) b ∙ ap (λ (x : Answer). kindNumber (placeOf x)) a;
+          place = ap (λ (x : Reply). x .place) b ∙ ap (λ (x : Answer). placeNumber (placeOf x)) a;
+        },
+        wiped (omega (arith, m)),
+      )
+
   clears : c .reply .number ≡ 0 → c .workspace₁ ≡ zeros (c .workspace₀)
   unfolding workspaceRead
   clears z = st .workspace ∙ left-done 11 (c .workspace₀) (zeros (c .workspace₀)) (zeros (c .workspace₀)) said (success-is z)
@@ -136,6 +159,7 @@ module _ (c : ReadCall) (st : ReadStated c) where
     );
     only = λ ss ts a b. one-chain (c .lengths) (c .payload) 0 ss ts (a .long ∙ sym (b .long)) (a .spelt) (b .spelt);
     hands = hands;
+    fails = λ caps f r k h. fails-at caps f r k (chain (c .lengths) (c .payload) 0 n) refl h;
     full = λ z. read-good (c .lengths) (c .payload) n (length (c .workspace₀)) (success-is z) .full;
     found = kept;
     cleared = wiped;

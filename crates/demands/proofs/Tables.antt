@@ -16,7 +16,7 @@ use Rattle.scope.specs.declared.Found.the-variants.{Word, NoWord}
 use Rattle.scope.specs.declared.Answer.{Answer}
 use Rattle.scope.specs.declared.Answer.the-variants.{Done}
 use Rattle.refusals.specs.Rows.{Every}
-use Rattle.codes.proofs.Longest.{longest-most}
+use Rattle.codes.proofs.Longest.{at-most-longest, longest-most}
 use Rattle.codes.proofs.Words.{prefix-free, word-found, found-begins}
 use Rattle.codes.proofs.Kraft.{word-fits}
 use Rattle.codes.proofs.Table.{table-length}
@@ -85,9 +85,10 @@ module _ (c : TableCall) (st : TableStated c) where
       λ z. is-good z .full,
       λ f. done-reply (answer-done (c .lengths) (length (c .workspace₀)) (caps .few) (longest-most (c .lengths) 18 (caps .small)) f room),
     );
+    caps = λ z. record { few = is-good z .few; small = λ s l. omega (arith, at-most-longest (c .lengths) s, is-good z .small) };
     full = λ z. is-good z .full;
-    fits = λ z. word-fits (c .lengths) (is-good z .small) (is-good z .full);
-    free = λ z. prefix-free (c .lengths);
+    fits = λ caps f. word-fits (c .lengths) (longest-most (c .lengths) 18 (caps .small)) f;
+    free = prefix-free (c .lengths);
     found = found;
     past = past;
   }

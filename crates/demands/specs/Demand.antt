@@ -23,7 +23,7 @@ use Rattle.scope.specs.declared.Entry.{Entry}
 use Rattle.scope.specs.declared.Entry.the-variants.{Eight, Deep}
 use Rattle.scope.specs.declared.Geometry.{Geometry}
 use Rattle.scope.specs.declared.Place.{Place}
-use Rattle.scope.specs.declared.Place.the-variants.{Nothing}
+use Rattle.scope.specs.declared.Place.the-variants.{Plane, Nothing}
 use Rattle.scope.specs.declared.Found.{Found}
 use Rattle.scope.specs.declared.Found.the-variants.{Word, NoWord}
 use Rattle.scope.specs.declared.Answer.{Answer}
@@ -180,11 +180,12 @@ pub record Demand3Table (c : TableCall) : Type 0 where
   pub exactly : ByTable (buildRows (c .lengths) (length (c .workspace₀))) (c .reply)
   -- “A table is built exactly when the shares total at most one;”
   pub built : InCaps (c .lengths) → need (c .lengths) ≤ length (c .workspace₀) → (c .reply .number ≡ 0) ↔ (shares (c .lengths) ≤ 262144)
-  -- of whatever lengths and workspace: built, hence shares at most one
+  -- of whatever lengths and workspace: built, hence within the caps, and shares at most one
+  pub caps : c .reply .number ≡ 0 → InCaps (c .lengths)
   pub full : c .reply .number ≡ 0 → shares (c .lengths) ≤ 262144
   -- “the longest-first words are then prefix-free;” each word is a number of as many bits as it has, and begins no other symbol's word
-  pub fits : c .reply .number ≡ 0 → (s : ℕ) → s < length (c .lengths) → 0 < lengthOf (c .lengths) s → wordOf (c .lengths) s < 2 ^ lengthOf (c .lengths) s
-  pub free : c .reply .number ≡ 0 → (s t : ℕ) → s < length (c .lengths) → t < length (c .lengths) → 0 < lengthOf (c .lengths) s
+  pub fits : InCaps (c .lengths) → shares (c .lengths) ≤ 262144 → (s : ℕ) → s < length (c .lengths) → 0 < lengthOf (c .lengths) s → wordOf (c .lengths) s < 2 ^ lengthOf (c .lengths) s
+  pub free : (s t : ℕ) → s < length (c .lengths) → t < length (c .lengths) → 0 < lengthOf (c .lengths) s
       → lengthOf (c .lengths) s ≤ lengthOf (c .lengths) t
       → wordOf (c .lengths) t / 2 ^ (lengthOf (c .lengths) t - lengthOf (c .lengths) s) ≡ wordOf (c .lengths) s → s ≡ t
   -- "and each leaves the workspace as found. Success leaves the words past the need as found"
@@ -222,6 +223,10 @@ pub record Demand3Reading (c : ReadCall) : Type 0 where
   pub only : (ss ts : Samples) → ChainOf (c .lengths) (c .payload) (length (c .samples₀)) ss → ChainOf (c .lengths) (c .payload) (length (c .samples₀)) ts → ss ≡ ts
   -- “and its symbols are the samples.”
   pub hands : c .reply .number ≡ 0 → ChainOf (c .lengths) (c .payload) (length (c .samples₀)) (c .samples₁)
+  -- where there is no such chain it is 14 at plane 0, and both are wholly zero
+  pub fails : InCaps (c .lengths) → shares (c .lengths) ≤ 262144 → need (c .lengths) ≤ length (c .workspace₀) → length (c .samples₀) ≤ 268435456
+      → ((ss : Samples) → ChainOf (c .lengths) (c .payload) (length (c .samples₀)) ss → ⊥)
+      → Says (Refused 14 (Plane 0)) (c .reply) × ((c .samples₁ ≡ zeros (c .samples₀)) × (c .workspace₁ ≡ zeros (c .workspace₀)))
   -- of whatever lengths and workspace: read, hence shares at most one
   pub full : c .reply .number ≡ 0 → shares (c .lengths) ≤ 262144
   -- the refusals before the reading "leave buffer and workspace as found"; 14 "leaves both wholly zero; success leaves the workspace zero"

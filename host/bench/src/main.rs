@@ -1,5 +1,5 @@
 //! Times ours against the customer's Rust on the same frames: Gray 8-bit coded with Left, Yuv 10-bit
-//! coded with Median, Rgb 8-bit raw.
+//! coded with Median, Rgb 8-bit raw, Gray 10-bit raw.
 //!
 //! One thread, both built for release. Ours: planes and workspace lent and kept, lengths lent; the
 //! figure has the checks, the tables, the reading and the clearing of the workspace in it. The Rust:
@@ -115,12 +115,12 @@ fn machine() -> String {
     )
 }
 
-/// Decodes one of the three frames once, at a size, with our side alone: for a tool that counts the
+/// Decodes one of the four frames once, at a size, with our side alone: for a tool that counts the
 /// instructions of `magicyuv_decode8` or `magicyuv_decode16`.
 fn once(numbers: &[String]) {
     let numbers: Option<Vec<u32>> = numbers.iter().map(|word| word.parse().ok()).collect();
-    let Some([at @ 0..3, width, height, slice]) = numbers.as_deref() else {
-        panic!("--once, a frame from 0 to 2, a width, a height and a slice height");
+    let Some([at @ 0..4, width, height, slice]) = numbers.as_deref() else {
+        panic!("--once, a frame from 0 to 3, a width, a height and a slice height");
     };
     let size = Size { width: *width, height: *height, slice: *slice };
     let (name, draft) = &pictures::frames(&size)[*at as usize];
@@ -139,7 +139,7 @@ fn heading(runs: usize) {
     println!();
 }
 
-/// Times all three frames.
+/// Times all four frames.
 fn timed() {
     match backing() {
         Backing::Archive => println!("timing the archive against the customer's Rust"),

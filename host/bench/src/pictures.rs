@@ -1,4 +1,4 @@
-//! The three frames of the benchmark, made from a smooth picture with some noise: the residues of a
+//! The four frames of the benchmark, made from a smooth picture with some noise: the residues of a
 //! predictor (document 01, "Prediction"), and code lengths from their counts.
 
 use compare::draft::{plane_major, BitWriter, Draft, Slice};
@@ -110,14 +110,16 @@ fn frame(size: &Size, family: Family, sx: u32, depth: u32, kind: Predictor, raw:
     Draft { format, geometry, lengths, order, slices, trailing: vec![], entry0: 0, shortest_run: 3 }
 }
 
-/// The three frames at a size, each with its name.
-pub fn frames(size: &Size) -> [(&'static str, Draft); 3] {
+/// The four frames at a size, each with its name.
+pub fn frames(size: &Size) -> [(&'static str, Draft); 4] {
     let gray = frame(size, Family::Gray, 1, 8, Predictor::Left, false);
     let yuv = frame(size, Family::Yuv, 2, 10, Predictor::Median, false);
     let rgb = frame(size, Family::Rgb, 1, 8, Predictor::Left, true);
+    let deep = frame(size, Family::Gray, 1, 10, Predictor::Left, true);
     [
         ("Gray 8-bit coded with Left", gray),
         ("Yuv 2x1 10-bit coded with Median", yuv),
         ("Rgb 8-bit raw with Left", rgb),
+        ("Gray 10-bit raw with Left", deep),
     ]
 }

@@ -22,7 +22,8 @@ use Rattle.scope.specs.Pieces.{readable}
 use Rattle.scope.proofs.Table.{read-in-pieces}
 use Rattle.codes.proofs.Table.{table-length}
 use Rattle.codes.proofs.Lookup.{looks-take}
-use Rattle.reader.specs.Reading.{WordsRead, Readable}
+use Rattle.codes.specs.Reading.{Readable}
+use Rattle.reader.specs.Reading.{WordsRead}
 use Rattle.reader.specs.declared.Reached.{Reached}
 use Rattle.reader.specs.declared.Reached.the-variants.{End, Stuck}
 use Rattle.reader.proofs.Chains.{end-chain, stuck-chain, code-readable, code-chain}

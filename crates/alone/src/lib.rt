@@ -10,7 +10,7 @@ ghost use Prim.Native.Nat.{_^_};
 ghost use lib.ListN.{length};
 ghost use Rattle.scope.specs.Lookup.{lookupIn};
 ghost use Rattle.scope.specs.Alone.{BuiltAlone, ReadAlone};
-ghost use Rattle.reader.specs.Reading.{Readable};
+ghost use Rattle.codes.specs.Reading.{Readable};
 ghost use Rattle.alone.specs.Built.{BuiltTable, TableRead};
 
 // What building gives: the longest length, which a reading needs beside the table; or a refusal with its number and place.

@@ -1,4 +1,3 @@
 pub mod Windows
-pub mod Raw
-pub mod Fills
+pub mod Tops
 pub mod Once

@@ -5,23 +5,21 @@ use mathlib.Core.Path.{_≡_, sym, _∙_}
 use contract.Lifetimes.{Lfts}
 use borrow.Fn.World.{ArgsD, ResD}
 use denote.Triple.Clauses.{AtExit}
-use denote.Ref.{now}
+use Rattle.bits.proofs.eight as eight
+use Rattle.bits.proofs.eight.Reads as eight-reads
 use Rattle.bits.proofs.peek as peek
 use Rattle.bits.proofs.peek.Reads as peek-reads
-use Rattle.bits.proofs.raw_u8 as raw-u8
-use Rattle.bits.proofs.raw_u8.Reads as raw-u8-reads
-use Rattle.bits.proofs.raw_u16 as raw-u16
-use Rattle.bits.proofs.raw_u16.Reads as raw-u16-reads
+use Rattle.bits.proofs.power as power
+use Rattle.bits.proofs.power.Reads as power-reads
+
+pub eight-once : (κs : Lfts 1) (a : ArgsD eight.signature κs) (r₁ r₂ : ResD eight.signature κs) (s₁ s₂ : AtExit eight.ended κs)
+    → eight-reads.Post κs a r₁ s₁ → eight-reads.Post κs a r₂ s₂ → r₁ ≡ r₂
+eight-once κs a r₁ r₂ s₁ s₂ p q = p ∙ sym q
 
 pub peek-once : (κs : Lfts 1) (a : ArgsD peek.signature κs) (r₁ r₂ : ResD peek.signature κs) (s₁ s₂ : AtExit peek.ended κs)
     → peek-reads.Post κs a r₁ s₁ → peek-reads.Post κs a r₂ s₂ → r₁ ≡ r₂
 peek-once κs a r₁ r₂ s₁ s₂ p q = p ∙ sym q
 
--- of raw samples the outcome is what the lent buffer then holds
-pub raw-u8-once : (κs : Lfts 2) (a : ArgsD raw-u8.signature κs) (r₁ r₂ : ResD raw-u8.signature κs) (s₁ s₂ : AtExit raw-u8.ended κs)
-    → raw-u8-reads.Post κs a r₁ s₁ → raw-u8-reads.Post κs a r₂ s₂ → now (s₁ .1 .1 .1 .0) ≡ now (s₂ .1 .1 .1 .0)
-raw-u8-once κs a r₁ r₂ s₁ s₂ p q = p ∙ sym q
-
-pub raw-u16-once : (κs : Lfts 2) (a : ArgsD raw-u16.signature κs) (r₁ r₂ : ResD raw-u16.signature κs) (s₁ s₂ : AtExit raw-u16.ended κs)
-    → raw-u16-reads.Post κs a r₁ s₁ → raw-u16-reads.Post κs a r₂ s₂ → now (s₁ .1 .1 .1 .0) ≡ now (s₂ .1 .1 .1 .0)
-raw-u16-once κs a r₁ r₂ s₁ s₂ p q = p ∙ sym q
+pub power-once : (κs : Lfts 0) (a : ArgsD power.signature κs) (r₁ r₂ : ResD power.signature κs) (s₁ s₂ : AtExit power.ended κs)
+    → power-reads.Post κs a r₁ s₁ → power-reads.Post κs a r₂ s₂ → r₁ ≡ r₂
+power-once κs a r₁ r₂ s₁ s₂ p q = p ∙ sym q

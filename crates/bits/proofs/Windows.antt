@@ -116,7 +116,14 @@ four-bytes payload i a b c d r e a₁ a₂ b₁ b₂ c₁ c₂ d₁ d₂ =
       byte-behind payload i 3,
     )
 
--- ---- k of those 32 bits
+-- eight bytes, four and then four, are the window of 64 bits
+pub eight-bytes : (payload : List ℕ) (i x y : ℕ) → x ≡ window payload (i * 8) 32 → y ≡ window payload ((i + 4) * 8) 32
+    → x * 4294967296 + y ≡ window payload (i * 8) 64
+eight-bytes payload i x y e f =
+    let q : (i + 4) * 8 ≡ i * 8 + 32 = omega arith in
+    rw (e, f, q) (sym (window-add payload (i * 8) 32 32))
+
+-- ---- k of the 32 bits of four bytes
 
 -- 2^k as the code makes it
 pub power-made : (k : ℕ) → k ≤ 18 → (1 * 2 ^ k) % 2 ^ 64 ≡ 2 ^ k
@@ -151,13 +158,4 @@ unfolding bits.packedFrom
 packed-length depth payload at zero = refl
 packed-length depth payload at (suc n) = ap suc (packed-length depth payload (at + depth) n)
 
--- sample i stands i times the depth past the first
-pub packed-at : (depth : ℕ) (payload : List ℕ) (at n i : ℕ) → i < n → getD (packedFrom depth payload at n) i 0 ≡ window payload (at + i * depth) depth
-unfolding bits.packedFrom
-packed-at depth payload at zero i h = absurd (omega arith)
-packed-at depth payload at (suc n) zero h = ap (λ (p : ℕ). window payload p depth) (omega arith)
-packed-at depth payload at (suc n) (suc i) h =
-    let e : at + depth + i * depth ≡ at + suc i * depth = omega arith in
-    packed-at depth payload (at + depth) n i (omega arith) ∙ ap (λ (p : ℕ). window payload p depth) e
-
-pub ruleset windows = (byte-outside, four-bytes, power-made, power-some, power-fits, cut-out, sample-fits, needs)
+pub ruleset windows = (byte-outside, four-bytes, eight-bytes, power-made, power-some, power-fits, cut-out, sample-fits, needs)

@@ -1,10 +1,8 @@
-// Document 01, "Layout": the bits of a payload, highest bit of each byte first and zero past the end, and the samples of a raw
-// slice, which is one byte a sample at depth 8 and packed at depth bits above that.
+// Document 01, "Layout": the bits of a payload, highest bit of each byte first and zero past the end.
 ghost use mathlib.Core.Path.{_≡_};
-ghost use Prim.Native.Nat.{_+_, _*_, _<_, _≤_, _^_};
+ghost use Prim.Native.Nat.{_+_, _*_, _/_, _<_, _≤_, _^_};
 ghost use lib.ListN.{length, getD};
-ghost use Rattle.scope.specs.Bits.{window, packedFrom};
-ghost use Rattle.bits.specs.Raw.{rawFrom, RawIn};
+ghost use Rattle.scope.specs.Bits.{window};
 
 // A cast of an element asks that the element fits; a call asks only for the index.
 fn wide(x: u8) -> u32
@@ -53,8 +51,30 @@ fn four(payload: &[u8], i: usize) -> u32
     )
 }
 
+// The 64 bits from byte i on, all eight bytes being in the payload: a caller that has tested that once reads them without a test each.
+// Joined in two halves, since so they compile to one load and a byte swap; one flat sum of eight bytes does not.
+pub fn eight(payload: &[u8], i: usize) -> u64
+    requires { ⌜ i + 8 ≤ length (now payload) ⌝ }
+    ensures { λ r. ⌜ r ≡ window (now (payload .entry)) (i * 8) 64 ⌝ }
+{
+    let high = joined(
+        wide(payload[i]),
+        wide(payload[i + 1]),
+        wide(payload[i + 2]),
+        wide(payload[i + 3]),
+    );
+    let j = i + 4;
+    let low = joined(
+        wide(payload[j]),
+        wide(payload[j + 1]),
+        wide(payload[j + 2]),
+        wide(payload[j + 3]),
+    );
+    (high as u64) * 4294967296 + low as u64
+}
+
 // 2^k. A function of its own, since the prover does not see of a bare shift, which is modulo 2^64, that it may divide.
-fn power(k: usize) -> u64
+pub fn power(k: usize) -> u64
     requires { ⌜ k ≤ 18 ⌝ }
     ensures { λ r. ⌜ r ≡ 2 ^ k ⌝ }
 {
@@ -71,49 +91,4 @@ pub fn peek(payload: &[u8], at: usize, k: usize) -> u32
     let o = at % 8;
     let w = four(payload, at / 8) as u64;
     ((w >> (32 - o - k)) % power(k)) as u32
-}
-
-// The raw samples of a payload from sample number `first` on, at depth 8: a byte each. `depth` is not read; it stands here so that both
-// widths are called alike.
-pub fn raw_u8(payload: &[u8], first: usize, depth: usize, out: &mut [u8])
-    requires { ⌜ depth ≡ 8 ⌝ }
-    requires { ⌜ RawIn depth (now payload) first (length (now out)) ⌝ }
-    ensures { λ _. ⌜ now (out .exit) ≡ rawFrom depth (now (payload .entry)) first (length (now (out .entry))) ⌝ }
-{
-    let mut i = 0;
-    while i < out.len() {
-        out[i] = payload[first + i];
-        i += 1;
-    }
-}
-
-// A sample of depth bits.
-fn sample_at(payload: &[u8], at: usize, depth: usize) -> u16
-    requires { ⌜ depth ≤ 16 ⌝ }
-    ensures { λ r. ⌜ r ≡ window (now (payload .entry)) at depth ⌝ }
-{
-    peek(payload, at, depth) as u16
-}
-
-// Samples of depth bits each, one after the other from a position on: a raw slice deeper than 8, or the rest of one.
-fn unpack_from(payload: &[u8], at: usize, depth: usize, out: &mut [u16])
-    requires { ⌜ (depth ≤ 16) × (at ≤ 4294967296) × (length (now out) ≤ 268435456) ⌝ }
-    ensures { λ _. ⌜ now (out .exit) ≡ packedFrom depth (now (payload .entry)) at (length (now (out .entry))) ⌝ }
-{
-    let mut p = at;
-    let mut i = 0;
-    while i < out.len() {
-        out[i] = sample_at(payload, p, depth);
-        p += depth;
-        i += 1;
-    }
-}
-
-// The raw samples of a payload from sample number `first` on, at a depth above 8: packed.
-pub fn raw_u16(payload: &[u8], first: usize, depth: usize, out: &mut [u16])
-    requires { ⌜ (8 < depth) × (depth ≤ 16) ⌝ }
-    requires { ⌜ RawIn depth (now payload) first (length (now out)) ⌝ }
-    ensures { λ _. ⌜ now (out .exit) ≡ rawFrom depth (now (payload .entry)) first (length (now (out .entry))) ⌝ }
-{
-    unpack_from(payload, first * depth, depth, out);
 }

@@ -7,17 +7,21 @@ ghost use mathlib.Core.Path.{_≡_};
 ghost use Prim.Native.Nat.{_*_, _^_};
 ghost use lib.ListN.{length};
 ghost use Rattle.scope.specs.Lookup.{lookupIn};
-ghost use Rattle.reader.specs.Reading.{Readable, WordsRead};
+ghost use Rattle.codes.specs.Reading.{Readable};
+ghost use Rattle.reader.specs.Reading.{WordsRead};
 ghost use Rattle.views.specs.Places.{samplesAt, gapsAt, rowsPlaces, Rowed};
 
 // As many words as `out` has places, one after the other from bit position `at` on: their symbols, and where the next word would begin.
+// Out of a kept window first (kept16), as far as that goes; then one by one, near the payload's end and where a word is missing.
 pub fn words(table: &[u32], m: usize, payload: &[u8], at: usize, out: &mut [u16]) -> Reached
     requires { ⌜ Readable (lookupIn (now table) m (now payload)) (2 ^ 16) at (length (now out)) ⌝ }
     ensures { λ r. ⌜ WordsRead (lookupIn (now (table .entry)) m (now (payload .entry))) at (length (now (out .entry))) r (now (out .exit)) ⌝ }
 {
-    let mut p = at;
-    let mut k: usize = 0;
-    while k < out.len() {
+    let n = out.len();
+    let went = kept16::words(table, m, payload, at, out);
+    let mut p = went.end;
+    let mut k: usize = went.count;
+    while k < n {
         match reader::next(table, m, payload, p) {
             Stepped::Still => {
                 return Reached::Stuck(p);

@@ -7,3 +7,4 @@ pub mod Heads
 pub mod Chains
 pub mod Table
 pub mod Lookup
+pub mod Reading

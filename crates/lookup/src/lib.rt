@@ -6,7 +6,7 @@ ghost use lib.ListN.{getD};
 ghost use Rattle.scope.specs.Lookup.{unpacked, lookupIn};
 
 // The word at i, and 0 past the end.
-fn word(words: &[u32], i: usize) -> u32
+pub fn word(words: &[u32], i: usize) -> u32
     ensures { λ r. ⌜ r ≡ getD (now (words .entry)) i 0 ⌝ }
 {
     if i < words.len() {

@@ -1,4 +1,6 @@
 pub mod InPlace
+pub mod Swept
 pub mod Clearing
 pub mod Sums
+pub mod Wrapped
 pub mod Once

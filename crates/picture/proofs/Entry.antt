@@ -31,7 +31,7 @@ use Rattle.incoming.proofs.Refused.{depth-shallow, depth-deep}
 use Rattle.codes.proofs.Lookup.{looks-table}
 use Rattle.geometry.proofs.Places.{width-fits, slice-height-fits}
 use Rattle.geometry.proofs.Figures.{samples-most}
-use Rattle.reader.specs.Reading.{Readable}
+use Rattle.codes.specs.Reading.{Readable}
 use Rattle.reader.proofs.Chains.{code-readable}
 use Rattle.slice.proofs.Entry.{read-is, samples-is}
 use Rattle.slice.proofs.Passed.{passed-in}

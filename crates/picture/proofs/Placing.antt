@@ -20,7 +20,7 @@ use Rattle.scope.specs.declared.Answer.the-variants.{Done}
 use Rattle.geometry.specs.Sound.{Sound}
 use Rattle.geometry.proofs.Places.{planes-most, place-in, place-room, width-fits, height-fits}
 use Rattle.layout.specs.Placed.{Placed}
-use Rattle.reader.specs.Reading.{Readable}
+use Rattle.codes.specs.Reading.{Readable}
 use Rattle.slice.specs.Slice.{payloadIn, SliceIn, readBy, samplesBy}
 use Rattle.tables.specs.declared.Codes.{Codes}
 use Rattle.stretches.specs.Stretch as str

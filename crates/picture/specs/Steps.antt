@@ -17,7 +17,7 @@ use Rattle.scope.specs.declared.Answer.the-variants.{Done}
 use Rattle.scope.specs.Pieces.{inOrder, indexCheck}
 use Rattle.lists.specs.Parts.{part, replaced}
 use Rattle.geometry.specs.Sound.{Sound}
-use Rattle.reader.specs.Reading.{Readable}
+use Rattle.codes.specs.Reading.{Readable}
 use Rattle.slice.specs.Slice.{SliceIn, readBy, samplesBy}
 use Rattle.tables.specs.declared.Codes.{Codes}
 

@@ -23,7 +23,7 @@ use Rattle.scope.specs.Frame as frm
 use Rattle.scope.specs.Frame.{sliceLengths, residuesOf, sliceSamples}
 use Rattle.scope.specs.declared.Geometry.{Geometry}
 use Rattle.memory.proofs.InPlace.{grown-length, grown-at}
-use Rattle.bits.proofs.Raw.{raw-first, raw-length}
+use Rattle.raw.proofs.Raw.{raw-first, raw-length}
 use Rattle.codes.proofs.Chains.{chain-length}
 use Rattle.geometry.proofs.Places.{width-fits, slice-height-fits}
 use Rattle.geometry.proofs.Figures.{samples-most}

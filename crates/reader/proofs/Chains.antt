@@ -1,21 +1,18 @@
--- What a reading says of the chain, and of a code's own words where its table is read; and how a reading goes on from where another one
--- ended (document 01, "Words and lookup"). Assumes nothing.
+-- What a reading says of the chain, and of a code's own words where its table is read (document 01, "Words and lookup"). Assumes nothing.
 use mathlib.Core.Path.{_≡_, refl, sym, ap, _∙_, subst}
-use Prim.Native.Nat.{ℕ, zero, suc, _+_, _*_, _^_, _≤_, _<_}
-use native.Mathlib.Nat.{zero-add, suc-add}
+use Prim.Native.Nat.{ℕ, _+_, _*_, _^_, _≤_, _<_}
 use native.Mathlib.Omega.{arith}
-use mathlib.Core.List.{List, []}
+use mathlib.Core.List.{List}
 use lib.ListN.{length}
-use Rattle.scope.specs.Words.{longest, wordAt, Chain, symbols, stuckAt, _before_, onWord, chainBy, chain}
+use Rattle.scope.specs.Words.{longest, wordAt, Chain, symbols, stuckAt, chainBy, chain}
 use Rattle.scope.specs.Lookup.{lookupIn}
 use Rattle.scope.specs.declared.Found.{Found}
-use Rattle.scope.specs.declared.Found.the-variants.{Word, NoWord}
 use Rattle.codes.proofs.Words.{FoundIn, found-in}
 use Rattle.codes.proofs.Chains.{chain-same}
-use Rattle.reader.specs.Reading.{onward, positionAfter, reached, WordsRead, Readable}
+use Rattle.codes.specs.Reading.{positionAfter, Readable}
+use Rattle.reader.specs.Reading.{reached, WordsRead}
 use Rattle.reader.specs.declared.Reached.{Reached}
 use Rattle.reader.specs.declared.Reached.the-variants.{End, Stuck}
-use Rattle.reader.proofs.Reading.{then}
 
 -- ---- what the two answers say
 
@@ -59,37 +56,6 @@ reading-once {look} {at} {n} {out₁ = out₁} p q = (
   p .answer ∙ sym (q .answer),
   λ e f. sym (q .handed out₁ (end-chain look at n out₁ e (subst (λ (r : Reached). WordsRead look at n r out₁) f p))),
 )
-
--- ---- n words, and then k more
-
--- one chain, and then another
-unfoldable pub joined : Chain → Chain → Chain
-joined (symbols ss) c = then ss c
-joined (stuckAt p) c = stuckAt p
-
-joined-before : (s : ℕ) (c d : Chain) → joined (s before c) d ≡ s before joined c d
-unfolding joined then _before_
-joined-before s (symbols ss) (symbols ts) = refl
-joined-before s (symbols ss) (stuckAt p) = refl
-joined-before s (stuckAt p) d = refl
-
-joined-none : (c : Chain) → joined (symbols []) c ≡ c
-unfolding joined then
-joined-none (symbols ss) = refl
-joined-none (stuckAt p) = refl
-
--- the words that follow are read from where the first n ended
-pub chain-resumes : (look : ℕ → Found) (n at k : ℕ) → chainBy look at (n + k) ≡ joined (chainBy look at n) (chainBy look (positionAfter look at n) k)
-unfolding chainBy positionAfter
-chain-resumes look zero at k = ap (chainBy look at) (zero-add k) ∙ sym (joined-none (chainBy look at k))
-chain-resumes look (suc n) at k = ap (chainBy look at) (suc-add n k) ∙ go (chain-resumes look n) (look at)
-  where
-    go : ((p j : ℕ) → chainBy look p (n + j) ≡ joined (chainBy look p n) (chainBy look (positionAfter look p n) j)) → (o : Found)
-        → onWord o at (λ l s. s before chainBy look (at + l) (n + k))
-        ≡ joined (onWord o at (λ l s. s before chainBy look (at + l) n)) (chainBy look (onward o at (λ p. positionAfter look p n)) k)
-    go ih NoWord = unfold onWord joined in refl
-    go ih (Word l s) = unfold onWord onward in
-        (ap (λ (c : Chain). s before c) (ih (at + l) k) ∙ sym (joined-before s (chainBy look (at + l) n) (chainBy look (positionAfter look (at + l) n) k)))
 
 -- ---- a code's own words, read by its table
 

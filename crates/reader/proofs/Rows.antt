@@ -3,8 +3,8 @@
 use mathlib.Core.Path.{_≡_, refl, sym, ap, _∙_}
 use mathlib.Core.Bool.{Bool}
 use mathlib.Core.List.{List, _++_}
-use Prim.Native.Nat.{ℕ, zero, suc, _+_, _-_, _*_, _≤_, _<_}
-use native.Mathlib.Nat.{suc-mul, zero-mul, zero-add, suc-add, mul-le-mul-right}
+use Prim.Native.Nat.{ℕ, _+_, _-_, _*_, _≤_, _<_}
+use native.Mathlib.Nat.{suc-mul, zero-mul, mul-le-mul-right}
 use native.Mathlib.Numerals.{add-one}
 use native.Mathlib.Omega.{arith}
 use borrow.Author.Needs.{needs}
@@ -14,45 +14,16 @@ use lib.Seq.{take-at}
 use Rattle.scope.specs.Words as wrd
 use Rattle.scope.specs.Words.{Chain, symbols, stuckAt, chainBy}
 use Rattle.scope.specs.declared.Found.{Found}
-use Rattle.scope.specs.declared.Found.the-variants.{Word, NoWord}
 use Rattle.codes.proofs.Chains.{no-symbols}
+use Rattle.codes.proofs.Reading.{then, joined, chain-resumes, position-resumes, position-near}
 use Rattle.views.specs.Places.{samplesAt, gapsAt, rowsPlaces, Rowed}
 use Rattle.views.proofs.Views.{only-one}
 use Rattle.views.proofs.Filling.{Fills, fills-start, fills-end, row-fits, row-fits-2, row-end-fits, lent-in, lent-long, lent-back}
-use Rattle.reader.specs.Reading.{onward, positionAfter, reached, WordsRead, Readable}
+use Rattle.codes.specs.Reading.{positionAfter, Readable}
+use Rattle.reader.specs.Reading.{reached, WordsRead}
 use Rattle.reader.specs.declared.Reached.{Reached}
 use Rattle.reader.specs.declared.Reached.the-variants.{End, Stuck}
-use Rattle.reader.proofs.Reading.{then}
-use Rattle.reader.proofs.Chains.{joined, chain-resumes, end-chain, end-position, stuck-chain, reading-once}
-
--- ---- positions resume
-
--- no word fits at a position: it stays there
-stuck-stays : (look : ℕ → Found) (at k : ℕ) → look at ≡ NoWord → positionAfter look at k ≡ at
-unfolding positionAfter onward
-stuck-stays look at zero e = refl
-stuck-stays look at (suc k) e = rw e
-
--- the position after n words and then k more
-position-resumes : (look : ℕ → Found) (n at k : ℕ) → positionAfter look at (n + k) ≡ positionAfter look (positionAfter look at n) k
-unfolding positionAfter
-position-resumes look zero at k = ap (positionAfter look at) (zero-add k)
-position-resumes look (suc n) at k = ap (positionAfter look at) (suc-add n k) ∙ go (position-resumes look n) (look at) refl
-  where
-    go : ((p j : ℕ) → positionAfter look p (n + j) ≡ positionAfter look (positionAfter look p n) j) → (o : Found) → look at ≡ o
-        → onward o at (λ p. positionAfter look p (n + k)) ≡ positionAfter look (onward o at (λ p. positionAfter look p n)) k
-    go ih NoWord e = unfold onward in (sym (stuck-stays look at k e))
-    go ih (Word l s) e = unfold onward in (ih (at + l) k)
-
--- a word has at most 18 bits
-position-near : (look : ℕ → Found) → ((p l s : ℕ) → look p ≡ Word l s → l ≤ 18) → (n at : ℕ) → positionAfter look at n ≤ at + 18 * n
-unfolding positionAfter
-position-near look short zero at = omega arith
-position-near look short (suc n) at = go (position-near look short n) (look at) refl
-  where
-    go : ((p : ℕ) → positionAfter look p n ≤ p + 18 * n) → (o : Found) → look at ≡ o → onward o at (λ p. positionAfter look p n) ≤ at + 18 * suc n
-    go ih NoWord e = unfold onward in (omega arith)
-    go ih (Word l s) e = unfold onward in (omega (arith, ih (at + l), short at l s e))
+use Rattle.reader.proofs.Chains.{end-chain, end-position, stuck-chain, reading-once}
 
 -- ---- the loop
 

@@ -46,35 +46,36 @@ fn t87_median_u16(left: u16, top: u16, topleft: u16) -> u16
     hi - (max_u16(lo, min_u16(topleft, hi)) - lo)
 }
 
-// Adds the left sample across.
+// Adds the left sample across. From sample to sample goes a sum that wraps at 16 bits; its remainder modulo 2^depth is the sample.
+// So a sample waits for one addition, and the remainder is taken beside it.
 fn left_row_u16(s: &mut [u16], start: usize, end: usize, depth: usize)
     requires { ⌜ (0 < start) × (start ≤ end) × (end ≤ length (now s)) ⌝ }
     requires { ⌜ depth ≤ 16 ⌝ }
     ensures { λ _. ⌜ now (s .exit) ≡ swept (leftward depth) (now (s .entry)) start (end - start) ⌝ }
 {
-    let mut left = s[start - 1];
+    let mut sum = s[start - 1];
     let mut i = start;
     while i < end {
-        left = memory::sum_u16(s[i], left, depth);
-        s[i] = left;
+        sum = std::num::wrapping_add_u16(s[i], sum);
+        s[i] = memory::sum_u16(sum, 0, depth);
         i += 1;
     }
 }
 
-// Adds the gradient across. The samples above are below 2^depth.
+// Adds the gradient across, by a sum that wraps at 16 bits, as left_row_u16 has it. The samples above are below 2^depth.
 fn gradient_row_u16(s: &mut [u16], start: usize, end: usize, back: usize, depth: usize)
     requires { ⌜ (0 < back) × (back < start) × (start ≤ end) × (end ≤ length (now s)) ⌝ }
     requires { ⌜ Above depth back (now s) start end ⌝ }
     requires { ⌜ depth ≤ 16 ⌝ }
     ensures { λ _. ⌜ now (s .exit) ≡ swept (across depth (gradient depth) back) (now (s .entry)) start (end - start) ⌝ }
 {
-    let mut left = s[start - 1];
+    let mut sum = s[start - 1];
     let mut topleft = s[start - back - 1];
     let mut i = start;
     while i < end {
         let top = s[i - back];
-        left = gradient_sum_u16(s[i], left, top, topleft, depth);
-        s[i] = left;
+        sum = gradient_sum_u16(s[i], sum, top, topleft, 16);
+        s[i] = memory::sum_u16(sum, 0, depth);
         topleft = top;
         i += 1;
     }

@@ -12,8 +12,8 @@ use borrow.Author.Needs.{needs}
 use borrow.Rule.Slice.PartMut.{putMid}
 use lib.ListN.{length, take, drop}
 use Rattle.scope.specs.Bits.{rawSamples}
-use Rattle.bits.specs.Raw.{rawFrom, RawIn}
-use Rattle.bits.proofs.Raw.{raw-none, raw-first, raw-resumes, raw-length}
+use Rattle.raw.specs.Raw.{rawFrom, RawIn}
+use Rattle.raw.proofs.Raw.{raw-none, raw-first, raw-resumes, raw-length}
 use Rattle.views.specs.Places.{samplesAt, gapsAt, rowsPlaces, Rowed}
 use Rattle.views.proofs.Filling.{Fills, fills-start, fills-end, row-fits, row-fits-2, row-end-fits, lent-in, lent-long, lent-back}
 

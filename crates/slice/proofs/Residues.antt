@@ -15,7 +15,7 @@ use Rattle.scope.specs.Bits.{rawSamples}
 use Rattle.scope.specs.Words.{symbols}
 use Rattle.scope.specs.declared.SliceAt.{SliceAt}
 use Rattle.scope.specs.declared.Found.{Found}
-use Rattle.bits.specs.Raw.{RawIn}
+use Rattle.raw.specs.Raw.{RawIn}
 use Rattle.reader.specs.Reading as rdg
 use Rattle.reader.specs.Reading.{reached, WordsRead}
 use Rattle.reader.specs.declared.Reached.{Reached}

@@ -16,7 +16,8 @@ use Rattle.scope.specs.declared.Place.the-variants.{Slice, Plane}
 use Rattle.scope.specs.declared.Answer.{Answer}
 use Rattle.scope.specs.declared.Answer.the-variants.{Done, Refused}
 use Rattle.scope.specs.Pieces.{readable}
-use Rattle.reader.specs.Reading.{positionAfter, reached}
+use Rattle.codes.specs.Reading.{positionAfter}
+use Rattle.reader.specs.Reading.{reached}
 use Rattle.reader.specs.declared.Reached.{Reached}
 use Rattle.reader.specs.declared.Reached.the-variants.{End, Stuck}
 

@@ -2,17 +2,22 @@
 use Prim.Native.Nat.{_-_, _≤_, _<_}
 use mathlib.Core.Path.{_≡_}
 use lib.ListN.{length, getD}
-use Rattle.memory.proofs.InPlace.{Sweep}
+use Rattle.memory.proofs.InPlace.{Sweep, sweep-end}
+use Rattle.memory.proofs.Swept.{swept-on}
+use borrow.Author.Needs.{needs}
 use Rattle.rows.proofs.Across.{across-rows}
 use Rattle.rows.specs.Rows.{leftward}
 use Rattle.rows8.proofs.left_row_u8.Statement.{statement}
 use Rattle.rows8.proofs.left_row_u8.Tie as tie
 
 abbrev Inv-loop : tie.InvT-loop
-Inv-loop s₀ start end left₀ i₀ s left i = Sweep (leftward 8) s₀ s start i end × (left ≡ getD s (i - 1) 0) × (0 < i) × (end ≤ length s)
+Inv-loop s₀ start end from left₀ i₀ s left i = Sweep (leftward 8) s₀ s from i end × (left ≡ getD s (i - 1) 0) × (0 < i) × (end ≤ length s)
 
 abbrev μ-loop : tie.MeasureT-loop
-μ-loop s₀ start end left₀ i₀ s left i = end - i
+μ-loop s₀ start end from left₀ i₀ s left i = end - i
+
+left-fours-u8-requires : tie.Need-left-fours-u8-requires Inv-loop μ-loop
+left-fours-u8-requires c κs = search across-rows
 
 sub-left : tie.Need-sub-left Inv-loop μ-loop
 sub-left c = search across-rows
@@ -39,13 +44,13 @@ loop-less : tie.Need-loop-less Inv-loop μ-loop
 loop-less c = search across-rows
 
 loop-again : tie.Need-loop-again Inv-loop μ-loop
-loop-again c = search across-rows
+loop-again c = (search across-rows, search across-rows, search needs, search needs)
 
 same-length : tie.Need-same-length Inv-loop μ-loop
 same-length c = search across-rows
 
 returns : tie.Need-returns Inv-loop μ-loop
-returns c = search across-rows
+returns c = search (sweep-end, swept-on)
 
 pub left-row-u8-spec : {M : Type 1} → statement M
 left-row-u8-spec =
@@ -53,6 +58,7 @@ left-row-u8-spec =
     (tie.spec
     Inv-loop
     μ-loop
+    left-fours-u8-requires
     sub-left
     slice-read-left
     loop-holds

@@ -1,0 +1,4 @@
+pub mod Window
+pub mod Entries
+pub mod Groups
+pub mod Once

@@ -1,104 +1,54 @@
-//! Times ours against the customer's Rust on the same frames: Gray 8-bit coded with Left, Yuv 10-bit
-//! coded with Median, Rgb 8-bit raw, Gray 10-bit raw.
+//! Times ours against a plain Rust program and against the customer's Rust, on the same frames, in
+//! one thread, all built for release. docs/SPEED.md has the method and the figures.
 //!
-//! One thread, both built for release. Ours: planes and workspace lent and kept, lengths lent; the
-//! figure has the checks, the tables, the reading and the clearing of the workspace in it. The Rust:
-//! its streaming entry with its buffers kept; the figure has its header, its descriptors, its tables
-//! and its clearing of the planes in it. The two are run in turn; the least and the
-//! median are shown, since other work on the machine only adds.
+//! ```text
+//! bench                 the frames of pictures.rs: a table
+//! bench --stages        where the time of ours and of the plain program goes
+//! bench --growth        over sizes, slices and words; the most slices; refusals
+//! bench --counts        instructions a sample, counted by callgrind, as lines
+//! bench --all           all of it, as lines that tools/speed.py reads
+//! bench --once FRAME WIDTH HEIGHT SLICE-HEIGHT        ours alone, once, and no clock
+//! bench --once-plain FRAME WIDTH HEIGHT SLICE-HEIGHT  the plain program alone
+//! bench --once-rust FRAME WIDTH HEIGHT SLICE-HEIGHT   the customer's Rust alone
+//! ```
 //!
-//! With `--once` and a frame, a width, a height and a slice height: ours alone, once, and no clock.
+//! `--runs N` changes how often each side is run. `--spoil` changes one sample of ours before the
+//! three sides are compared, `--spoil-word` a workspace word, `--spoil-left` a sample that a refusal
+//! leaves. A difference ends it with status 1.
 #![forbid(unsafe_code)]
 
+mod counts;
+mod growth;
+mod lent;
+mod measure;
 mod pictures;
+mod report;
+mod sides;
+mod stages;
 
-use compare::draft::Draft;
-use magicyuv_host::model::{needs, Model};
-use magicyuv_host::{backing, core, Answer, Backing, Core};
-use oracle::decoder::{decode_into, DecodedFrame, Samples};
-use pictures::Size;
-use std::time::Instant;
+use lent::{Input, Memory};
+use magicyuv_host::{backing, Answer, Backing};
+use pictures::{frame, Size, FRAMES, TIMED};
+use report::Row;
+use sides::Spoil;
+use std::process::ExitCode;
 
-/// Runs of each side, enough that some of them meet a quiet moment of a busy machine.
-const RUNS: usize = 51;
-
-/// What our side is lent, kept over all runs.
-struct Kept {
-    bytes: Vec<u8>,
-    lengths: Vec<u8>,
-    eight: Vec<u8>,
-    sixteen: Vec<u16>,
-    workspace: Vec<u32>,
+/// How the clock is used.
+pub struct Options {
+    /// Runs of each side, enough that some of them meet a quiet moment of a busy machine.
+    pub runs: usize,
+    /// What of ours is changed before the sides are compared.
+    pub spoil: Spoil,
 }
 
-fn kept(draft: &Draft) -> Kept {
-    let (lengths, g) = (draft.lengths.concat(), &draft.geometry);
-    let count = |depth_8: bool| if (g.depth == 8) == depth_8 { g.samples() } else { 0 };
-    Kept {
-        bytes: draft.bytes(),
-        eight: vec![0; count(true)],
-        sixteen: vec![0; count(false)],
-        workspace: vec![0; needs(&lengths, g.depth).expect("shares of at most one")],
-        lengths,
+/// The frames of the first table, each as soon as it is measured.
+fn frames(options: &Options, sink: growth::Sink) -> Result<(), String> {
+    for (at, kind) in FRAMES.iter().enumerate() {
+        let input = Input::of(&frame(kind, &TIMED));
+        let row = Row::new("frame", kind.name(), at, &input);
+        sink(growth::sound(row, &input, options.runs, options.spoil)?);
     }
-}
-
-fn ours(side: &dyn Core, draft: &Draft, kept: &mut Kept) -> f64 {
-    let numbers = draft.geometry.numbers();
-    let start = Instant::now();
-    let answer = if draft.geometry.depth == 8 {
-        side.decode8(&kept.bytes, &kept.lengths, &mut kept.eight, &mut kept.workspace, &numbers)
-    } else {
-        side.decode16(&kept.bytes, &kept.lengths, &mut kept.sixteen, &mut kept.workspace, &numbers)
-    };
-    let time = start.elapsed().as_secs_f64();
-    assert_eq!(answer, Answer::Planes, "the benchmark's frame is sound");
-    time
-}
-
-fn theirs(bytes: &[u8], frame: &mut DecodedFrame) -> f64 {
-    let start = Instant::now();
-    decode_into(bytes, frame).expect("the benchmark's frame is sound");
-    start.elapsed().as_secs_f64()
-}
-
-/// Both sides must hold the same samples.
-fn same_samples(kept: &Kept, frame: &DecodedFrame) -> bool {
-    let (mut eight, mut sixteen) = (Vec::<u8>::new(), Vec::<u16>::new());
-    for plane in &frame.planes {
-        match &plane.samples {
-            Samples::U8(samples) => eight.extend(samples),
-            Samples::U16(samples) => sixteen.extend(samples),
-        }
-    }
-    eight == kept.eight && sixteen == kept.sixteen
-}
-
-/// The least and the median.
-fn least_and_median(mut times: Vec<f64>) -> (f64, f64) {
-    times.sort_by(f64::total_cmp);
-    (times[0], times[times.len() / 2])
-}
-
-fn one(name: &str, draft: &Draft, runs: usize) {
-    let (mut kept, mut frame) = (kept(draft), DecodedFrame::empty());
-    ours(core(), draft, &mut kept);
-    theirs(&kept.bytes, &mut frame);
-    assert!(same_samples(&kept, &frame), "both sides decode the same samples");
-    let (mut a, mut b) = (Vec::new(), Vec::new());
-    for _ in 0..runs {
-        a.push(ours(core(), draft, &mut kept));
-        b.push(theirs(&kept.bytes, &mut frame));
-    }
-    let samples = draft.geometry.samples() as f64;
-    let bits = 8.0 * kept.bytes.len() as f64 / samples;
-    print!("{name:<34}{bits:>6.2}");
-    let (a, b) = (least_and_median(a), least_and_median(b));
-    for (ours, theirs) in [(a.0, b.0), (a.1, b.1)] {
-        let each = 1e9 / samples;
-        print!("{:>10.2}{:>9.2}{:>7.2}", ours * each, theirs * each, ours / theirs);
-    }
-    println!();
+    Ok(())
 }
 
 /// The processor, how many of them, and how busy the machine is, as far as the system says it.
@@ -107,63 +57,121 @@ fn machine() -> String {
     let info = read("/proc/cpuinfo");
     let name = info.lines().find_map(|l| l.strip_prefix("model name")).unwrap_or(": unknown");
     let count = std::thread::available_parallelism().map_or(0, |n| n.get());
-    let load = read("/proc/loadavg");
-    let load = load.split(' ').next().unwrap_or("").to_string();
-    format!(
-        "{}, {count} cores, load {load} at the start",
-        name.trim_start_matches([' ', '\t', ':'])
-    )
+    format!("{}, {count} cores, load {}", name.trim_start_matches([' ', '\t', ':']), load())
 }
 
-/// Decodes one of the four frames once, at a size, with our side alone: for a tool that counts the
-/// instructions of `magicyuv_decode8` or `magicyuv_decode16`.
-fn once(numbers: &[String]) {
+fn load() -> String {
+    let load = std::fs::read_to_string("/proc/loadavg").unwrap_or_default();
+    load.split(' ').next().unwrap_or("unknown").to_string()
+}
+
+/// What the figures are of, one line each.
+fn head(options: &Options) {
+    let ours = match backing() {
+        Backing::Archive => "the archive",
+        Backing::Model => "THE SLOW MODEL: built without an archive",
+    };
+    let Size { width, height, slice } = TIMED;
+    println!("head\tours\t{ours}");
+    println!("head\tmachine\t{} at the start", machine());
+    println!("head\tcompiler\t{}; {}", env!("BENCH_RUSTC"), env!("BENCH_PROFILE"));
+    println!("head\tsize\t{width} by {height}, slice height {slice}");
+    println!("head\truns\t{}", options.runs);
+}
+
+/// A table's rows, by whatever measures them.
+fn table(measure: impl FnOnce(growth::Sink) -> Result<(), String>) -> Result<(), String> {
+    let mut rows = Vec::new();
+    measure(&mut |row| rows.push(row))?;
+    report::table(&rows);
+    Ok(())
+}
+
+fn all(options: &Options) -> Result<(), String> {
+    frames(options, &mut |row| row.lines())?;
+    stages::all(options, &mut |staged| staged.lines())?;
+    growth::all(options, &mut |row| row.lines())?;
+    if let Err(what) = counts::all(&mut |counted| counted.lines()) {
+        println!("head\tcounts\tnone: {what}");
+    }
+    println!("head\tend\tload {} at the end", load());
+    Ok(())
+}
+
+/// Decodes one of the first four frames once, at a size, with one side alone: for a tool that counts
+/// the instructions of `magicyuv_decode8`, `magicyuv_decode16`, `plain_side` or `rust_side`.
+fn once(numbers: &[String], side: fn(&Input)) -> Result<(), String> {
     let numbers: Option<Vec<u32>> = numbers.iter().map(|word| word.parse().ok()).collect();
     let Some([at @ 0..4, width, height, slice]) = numbers.as_deref() else {
-        panic!("--once, a frame from 0 to 3, a width, a height and a slice height");
+        return Err("a frame from 0 to 3, a width, a height and a slice height".into());
     };
-    let size = Size { width: *width, height: *height, slice: *slice };
-    let (name, draft) = &pictures::frames(&size)[*at as usize];
-    ours(core(), draft, &mut kept(draft));
+    let kind = &FRAMES[*at as usize];
+    let draft = frame(kind, &Size { width: *width, height: *height, slice: *slice });
+    let input = Input::of(&draft);
+    side(&input);
     let (samples, slices) = (draft.geometry.samples(), draft.slices.len());
-    println!("{name}, once: {samples} samples in {slices} slices");
+    println!("{}, once: {samples} samples in {slices} slices", kind.name());
+    Ok(())
 }
 
-/// The heading, for a number of runs.
-fn heading(runs: usize) {
-    let Size { width, height, slice } = pictures::TIMED;
-    println!("{width} by {height}, slice height {slice}; {runs} runs, nanoseconds a sample");
-    println!("{:<34}{:>6}{:>26}{:>26}", "", "", "least of all runs", "median of all runs");
-    print!("{:<34}{:>6}", "frame", "bits");
-    (0..2).for_each(|_| print!("{:>10}{:>9}{:>7}", "ours", "Rust", "ratio"));
-    println!();
+/// One call of ours or of the plain program.
+fn alone(input: &Input, side: fn(&Input, &mut Memory) -> Answer) {
+    assert_eq!(side(input, &mut Memory::noisy(input, 1)), Answer::Planes);
 }
 
-/// Times all four frames.
-fn timed() {
-    match backing() {
-        Backing::Archive => println!("timing the archive against the customer's Rust"),
-        Backing::Model => {
-            println!("BUILT WITHOUT AN ARCHIVE: timing the slow model against the customer's Rust")
+/// `--runs` and the spoilings taken out of the words.
+fn options(words: &mut Vec<String>) -> Result<Options, String> {
+    let runs = match words.iter().position(|word| word == "--runs") {
+        None => 51,
+        Some(at) => {
+            let number = words.get(at + 1).and_then(|word| word.parse().ok()).filter(|n| *n > 0);
+            words.drain(at..words.len().min(at + 2));
+            number.ok_or("--runs and a number above 0")?
+        }
+    };
+    let mut spoil = Spoil::Nothing;
+    let spoils =
+        [("--spoil", Spoil::Sample), ("--spoil-word", Spoil::Word), ("--spoil-left", Spoil::Left)];
+    for (name, kind) in spoils {
+        if let Some(at) = words.iter().position(|word| word == name) {
+            words.remove(at);
+            spoil = kind;
         }
     }
-    println!("{}", machine());
-    let runs = if backing() == Backing::Model { 3 } else { RUNS };
-    heading(runs);
-    let frames = pictures::frames(&pictures::TIMED);
-    frames.iter().for_each(|(name, draft)| one(name, draft, runs));
-    if backing() == Backing::Archive {
-        let gray = &frames[0].1;
-        let time = ours(&Model, gray, &mut kept(gray)) * 1e9 / gray.geometry.samples() as f64;
-        println!("(the model on the first frame, one run: {time:.2})");
+    Ok(Options { runs: if backing() == Backing::Model { runs.min(3) } else { runs }, spoil })
+}
+
+fn run(mut words: Vec<String>) -> Result<(), String> {
+    let options = options(&mut words)?;
+    let (mode, numbers) = match words.split_first() {
+        None => ("", &[][..]),
+        Some((mode, numbers)) => (mode.as_str(), numbers),
+    };
+    match (mode, numbers) {
+        ("--once", _) => return once(numbers, |input| alone(input, sides::ours)),
+        ("--once-plain", _) => return once(numbers, |input| alone(input, sides::plain_side)),
+        ("--once-rust", _) => return once(numbers, sides::rust_once),
+        ("--counts", []) => return counts::all(&mut |counted| counted.lines()),
+        ("" | "--stages" | "--growth" | "--all", []) => head(&options),
+        _ => return Err("words that it does not know; host/bench/src/main.rs has them".into()),
+    }
+    match mode {
+        "--stages" => {
+            stages::heading();
+            stages::all(&options, &mut |staged| staged.row())
+        }
+        "--growth" => table(|sink| growth::all(&options, sink)),
+        "--all" => all(&options),
+        _ => table(|sink| frames(&options, sink)),
     }
 }
 
-fn main() {
-    let words: Vec<String> = std::env::args().skip(1).collect();
-    match words.as_slice() {
-        [] => timed(),
-        [flag, numbers @ ..] if flag == "--once" => once(numbers),
-        _ => panic!("no words, or --once and four numbers"),
+fn main() -> ExitCode {
+    match run(std::env::args().skip(1).collect()) {
+        Ok(()) => ExitCode::SUCCESS,
+        Err(what) => {
+            eprintln!("bench: {what}");
+            ExitCode::FAILURE
+        }
     }
 }

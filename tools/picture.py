@@ -35,6 +35,7 @@ WORDS = {
     "reader": "the thin reader, one step of it, where a reading ended",
     "chain8": "words one after the other, row by row",
     "chain16": "words one after the other, row by row",
+    "within": "two checks that never fire: every slice begins in its plane, a raw one has all its bytes",
     "geometry": "what a family and a depth say; laws of the figures",
     "sides": "sides of a plane, K and T, the rows of a place",
     "stretches": "where rows stand in the plane buffer",

@@ -1,7 +1,7 @@
 -- Document 01, "Refusal numbers", 12 to 14 of a slice before any is read: each as src/lib.rt finds it, and what is known of a slice
 -- that has none. Assumes nothing.
-use mathlib.Core.Path.{_≡_}
-use mathlib.Core.Bool.{Bool, true, false, not, _&&_}
+use mathlib.Core.Path.{_≡_, sym}
+use mathlib.Core.Bool.{Bool, true, false}
 use mathlib.Core.List.{List}
 use Prim.Native.Nat.{ℕ, _+_, _-_, _*_, _/_, _≤_, _<_}
 use native.Mathlib.Nat.{mul-le-mul}
@@ -10,21 +10,19 @@ use mir.Syntax.{w64}
 use mir.Val.{Fits}
 use borrow.Author.Tests.{eq-eqb, ne-eqb, lt-ltb, le-ltb, ltb-false}
 use borrow.Author.Needs.{needs}
-use lib.Dec.{eqb, ltb}
 use lib.ListN.{length}
 use Rattle.scope.specs.Base.{overUp}
-use Rattle.scope.specs.Refusals.{refuseIf, _andThen_}
-use Rattle.scope.specs.Layout.{planeIndex, sliceStart, sliceEnd, isRaw, samplesIn}
-use Rattle.scope.specs.Words.{longest}
-use Rattle.scope.specs.Frame as frm
+use Rattle.scope.specs.Refusals as refusals
+use Rattle.scope.specs.Refusals.{NoneApplies}
+use Rattle.scope.specs.Layout.{sliceStart, sliceEnd}
 use Rattle.scope.specs.Pieces as pcs
-use Rattle.scope.specs.Frame.{sliceLengths, fewestBytes}
+use Rattle.scope.specs.Frame.{sliceRows}
 use Rattle.scope.specs.declared.Geometry.{Geometry}
 use Rattle.scope.specs.declared.Place.the-variants.{Slice, Plane}
 use Rattle.scope.specs.declared.Answer.{Answer}
 use Rattle.scope.specs.declared.Answer.the-variants.{Done, Refused}
 use Rattle.scope.specs.Pieces.{sliceCheck}
-use Rattle.refusals.proofs.InOrder.{first-passed, then-passed, if-passed}
+use Rattle.scope.proofs.Table.{planes-when}
 use Rattle.checks.specs.Slices as slc
 use Rattle.checks.specs.Slices.{sizeCheck, sliceRule}
 
@@ -98,46 +96,17 @@ pub ruleset slicings = (slice-12a, slice-12b, slice-13, slice-raw, slice-14, sli
 -- ---- a slice that passed
 
 module _ (frame : List ℕ) (g : Geometry) (lengths : List ℕ) (s : ℕ) (h : Done ≡ sliceCheck frame g lengths s) where
-  bounds : Answer
-  bounds = refuseIf (ltb (length frame) (sliceEnd frame g s)) 12 (Slice s)
-
-  prefix : Answer
-  prefix = refuseIf (ltb (sliceEnd frame g s) (sliceStart frame g s + 2)) 13 (Slice s)
-
-  wordless : Bool
-  wordless = not (isRaw frame g s) && eqb (longest (sliceLengths frame g lengths s)) 0
-
-  size : Answer
-  size = refuseIf (ltb (sliceEnd frame g s - (sliceStart frame g s + 2)) (fewestBytes frame g lengths s)) 12 (Slice s)
-
-  past-start : Done ≡ (bounds andThen prefix andThen refuseIf wordless 14 (Plane (planeIndex frame g s)) andThen size)
-  unfolding pcs.sliceCheck bounds prefix wordless size
-  past-start = then-passed (refuseIf (ltb (sliceEnd frame g s) (sliceStart frame g s)) 12 (Slice s)) _ h
-
-  past-bounds : Done ≡ (prefix andThen refuseIf wordless 14 (Plane (planeIndex frame g s)) andThen size)
-  past-bounds = then-passed bounds _ past-start
-
-  past-prefix : Done ≡ (refuseIf wordless 14 (Plane (planeIndex frame g s)) andThen size)
-  past-prefix = then-passed prefix _ past-bounds
+  -- none of its five rows applies
+  pub slice-none : NoneApplies (sliceRows frame g lengths s)
+  unfolding pcs.sliceCheck
+  slice-none = planes-when (sliceRows frame g lengths s) .0 (sym h)
 
   -- it ends within the frame
   pub slice-in : sliceEnd frame g s ≤ length frame
-  unfolding bounds
-  slice-in = ltb-false _ _ (if-passed (ltb (length frame) (sliceEnd frame g s)) 12 (Slice s) (first-passed bounds _ past-start))
+  unfolding refusals.NoneApplies
+  slice-in = ltb-false _ _ (slice-none .1 .0)
 
   -- it has its two bytes of prefix
   pub prefix-in : sliceStart frame g s + 2 ≤ sliceEnd frame g s
-  unfolding prefix
-  prefix-in = ltb-false _ _ (if-passed (ltb (sliceEnd frame g s) (sliceStart frame g s + 2)) 13 (Slice s) (first-passed prefix _ past-bounds))
-
-  -- it has as many bytes as it must
-  pub bytes-in : fewestBytes frame g lengths s ≤ sliceEnd frame g s - (sliceStart frame g s + 2)
-  unfolding size
-  bytes-in = ltb-false _ _ (if-passed (ltb (sliceEnd frame g s - (sliceStart frame g s + 2)) (fewestBytes frame g lengths s)) 12 (Slice s) (then-passed (refuseIf wordless 14 (Plane (planeIndex frame g s))) size past-prefix))
-
-  -- if it is raw, depth bits for each sample
-  pub raw-bits : isRaw frame g s ≡ true → samplesIn frame g s * g .depth ≤ (sliceEnd frame g s - (sliceStart frame g s + 2)) * 8
-  unfolding frm.fewestBytes
-  raw-bits e =
-      let k : overUp (samplesIn frame g s * g .depth) 8 ≤ sliceEnd frame g s - (sliceStart frame g s + 2) = rw e at bytes-in in
-      omega arith
+  unfolding refusals.NoneApplies
+  prefix-in = ltb-false _ _ (slice-none .1 .1 .0)

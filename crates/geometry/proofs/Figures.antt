@@ -16,12 +16,13 @@ use Rattle.lists.proofs.Powers.{shl-one}
 use Rattle.scope.specs.Base as base
 use Rattle.scope.specs.Base.{sumBelow}
 use Rattle.scope.specs.Geometry as geo
-use Rattle.scope.specs.Geometry.{subsampled, correlated, planeCount, slicesPerPlane, small, planeWidth, planeHeight, planeSliceHeight, firstRow, rowsAt, planeSamples, allSamples, swapped, orderOf, planeStart, rowStart}
+use Rattle.scope.specs.Geometry.{subsampled, correlated, planeCount, slicesPerPlane, small, planeWidth, planeHeight, planeSliceHeight, rowsAt, planeSamples, allSamples, swapped, orderOf, planeStart}
 use Rattle.scope.specs.declared.Geometry.{Geometry}
 use Rattle.lists.proofs.Tests.{told-yes, told-no, test-yes, test-no}
 use Rattle.geometry.specs.Sound.{Sound}
-use Rattle.geometry.proofs.Places.{height-fits, planes-most, planes-some, place-in, order}
+use Rattle.geometry.proofs.Places.{width-fits, height-fits, slice-height-fits, planes-most, planes-some, place-checked, order}
 use Rattle.lists.proofs.Numbers.{part-some, part-most, product-most}
+use Rattle.within.proofs.Within.{place-begins}
 
 -- ---- sides
 
@@ -52,6 +53,13 @@ samples-most x y h k = product-most x y 16384 16384 h k
 -- so it fits 64 bits
 pub samples-fit : (x y : ℕ) → x ≤ 16384 → y ≤ 16384 → Fits w64 (x * y)
 samples-fit x y h k = record { fits = omega (arith, samples-most x y h k) }
+
+-- a place's samples are no more than the largest plane's
+pub place-most : (g : Geometry) (p k : ℕ) → Sound g → rowsAt g p k * planeWidth g p ≤ 268435456
+unfolding geo.rowsAt
+place-most g p k ok =
+    let few : rowsAt g p k ≤ 16384 = unfold geo.rowsAt in (omega (arith, slice-height-fits g ok p .1)) in
+    samples-most (rowsAt g p k) (planeWidth g p) few (width-fits g ok p .1)
 
 -- a plane's samples are its sides' product
 pub samples-are : (g : Geometry) (p w h : ℕ) → w ≡ planeWidth g p → h ≡ planeHeight g p → w * h ≡ planeSamples g p
@@ -199,15 +207,11 @@ count-some g p k e h = rw e (mul-le-mul (planes-some (g .family)) h)
 module _ (g : Geometry) (p k b : ℕ) (ok : Sound g) (lk : k < slicesPerPlane g) (eb : b ≡ planeSliceHeight g p) where
   -- the place's first row
   pub first-in : k * b ≤ planeHeight g p
-  first-in = rw eb (omega (arith, place-in g ok p k lk))
+  first-in = rw eb (omega (arith, place-begins g p k (place-checked g ok k lk) .begins))
 
   -- the place's first row fits 64 bits
   pub first-fits : Fits w64 (k * b)
   first-fits = record { fits = omega (arith, first-in, height-fits g ok p .1) }
-
-  -- and is where the place starts
-  pub first-start : (r : ℕ) → r ≡ rowStart g p (k * b) → r ≡ rowStart g p (firstRow g p k)
-  first-start r e = rw (← eb) e
 
   module _ (h : ℕ) (eh : h ≡ planeHeight g p) where
     -- no place starts past its plane
@@ -230,6 +234,6 @@ module _ (g : Geometry) (p k b : ℕ) (ok : Sound g) (lk : k < slicesPerPlane g)
 
     -- and has a row at least
     pub rows-left : 1 ≤ h - k * b
-    rows-left = rw (eh, eb) (omega (arith, place-in g ok p k lk))
+    rows-left = rw (eh, eb) (omega (arith, place-begins g p k (place-checked g ok k lk) .begins))
 
-pub ruleset place-rows = (first-in, first-fits, first-start, first-below, rows-whole, rows-cut, rows-left, needs)
+pub ruleset place-rows = (first-fits, first-below, rows-whole, rows-cut, rows-left, needs)

@@ -10,7 +10,9 @@ use Rattle.scope.specs.Geometry.{planesOf, subsampled, correlated, planeCount, 
 use Rattle.scope.specs.declared.Family.{Family}
 use Rattle.scope.specs.declared.Family.the-variants.{Gray, Rgb, Yuv, Rgba, Yuva}
 use Rattle.scope.specs.declared.Geometry.{Geometry}
-use Rattle.lists.proofs.Numbers.{part-some, part-most, below-up, enough, below-up-small, enough-small}
+use Rattle.lists.proofs.Numbers.{part-some, part-most, enough}
+use Rattle.within.specs.Within.{PlaceChecked}
+use Rattle.within.proofs.Within.{place-begins, no-place-beyond}
 use Rattle.geometry.specs.Sound.{Sound}
 use Rattle.geometry.specs.Places as places
 use Rattle.geometry.specs.Places.{filled}
@@ -58,23 +60,13 @@ planes-some Yuva = omega arith
 -- ---- places
 
 module _ (g : Geometry) (ok : Sound g) where
-  -- place k starts within its plane
-  pub place-in : (p k : ℕ) → k < slicesPerPlane g → firstRow g p k < planeHeight g p
-  unfolding geo.planeSliceHeight geo.planeHeight
-  place-in p k l = go (small g p)
-    where
-      go : (t : Bool) → k * cond t (g .«slice_height» / g .sy) (g .«slice_height») < cond t (g .height / g .sy) (g .height)
-      go true = below-up-small (g .height) (g .«slice_height») (g .sy) (ok .down .0) (ok .sliced .0) (ok .even-height) (ok .even-slices) k l
-      go false = below-up (g .height) (g .«slice_height») k (ok .sliced .0) l
+  -- a place below K is one that `place-begins` speaks of
+  pub place-checked : (k : ℕ) → k < slicesPerPlane g → PlaceChecked g k
+  place-checked k l = record { height = ok .even-height; slices = ok .even-slices; place = l }
 
   -- K places cover the plane
   pub covered : (p : ℕ) → planeHeight g p ≤ firstRow g p (slicesPerPlane g)
-  unfolding geo.planeSliceHeight geo.planeHeight
-  covered p = go (small g p)
-    where
-      go : (t : Bool) → cond t (g .height / g .sy) (g .height) ≤ slicesPerPlane g * cond t (g .«slice_height» / g .sy) (g .«slice_height»)
-      go true = enough-small (g .height) (g .«slice_height») (g .sy) (ok .down .0) (ok .sliced .0) (ok .even-height) (ok .even-slices)
-      go false = enough (g .height) (g .«slice_height») (ok .sliced .0)
+  covered p = no-place-beyond g p (slicesPerPlane g) (ok .sliced .0) (ok .even-slices) (omega arith)
 
   -- K is 1 to 16,384
   pub slices-most : slicesPerPlane g ≤ 16384
@@ -107,7 +99,7 @@ module _ (g : Geometry) (ok : Sound g) where
   pub filled-start : (p k : ℕ) → k < slicesPerPlane g → filled g p k ≡ firstRow g p k * planeWidth g p
   unfolding places.filled
   filled-start p k l =
-      let e : min (firstRow g p k) (planeHeight g p) ≡ firstRow g p k = omega (arith, place-in p k l) in
+      let e : min (firstRow g p k) (planeHeight g p) ≡ firstRow g p k = omega (arith, place-begins g p k (place-checked k l) .begins) in
       rw e
 
   -- so it starts there in the buffer

@@ -7,16 +7,19 @@ use native.Mathlib.Omega.{arith}
 use borrow.Author.Tests.{lt-ltb, le-ltb}
 use lib.Dec.{eqb}
 use lib.ListN.{length, getD}
-use Rattle.scope.specs.Geometry.{sliceCount, planeWidth, planeSliceHeight, rowsAt}
+use Rattle.scope.specs.Geometry.{sliceCount, planeWidth, planeHeight, planeSliceHeight, rowsAt}
 use Rattle.scope.specs.Layout as lay
 use Rattle.scope.specs.Layout.{le32, preambleEnd, countByte, planeIndex, placeInPlane, sliceStart, sliceEnd, sliceAt}
 use Rattle.geometry.specs.Sound.{Sound}
-use Rattle.geometry.proofs.Places.{slice-count-most}
+use Rattle.geometry.proofs.Places.{slice-count-most, place-checked}
 use Rattle.geometry.proofs.Figures.{first-fits}
+use Rattle.within.specs.Within.{InPlane}
+use Rattle.within.proofs.Within.{place-begins}
 use Rattle.layout.specs.Placed.{Placed}
 use mir.Syntax.{w64}
 use mir.Val.{Fits}
 use Rattle.scope.specs.declared.Geometry.{Geometry}
+use Rattle.scope.specs.declared.SliceAt.{SliceAt}
 
 -- four bytes, the lowest first
 pub le32-is : (frame : List ℕ) (at a b c d : ℕ) → a ≡ getD frame at 0 → b ≡ getD frame (at + 1) 0 → c ≡ getD frame (at + 2) 0 → d ≡ getD frame (at + 3) 0 → a + 256 * b + 65536 * c + 16777216 * d ≡ le32 frame at
@@ -68,6 +71,12 @@ module _ (frame : List ℕ) (g : Geometry) (s p k : ℕ) (pl : Placed frame g s 
   -- the place's first row is a number of 64 bits
   pub first-row-fits : (height : ℕ) → Sound g → height ≡ planeSliceHeight g p → Fits w64 (k * height)
   first-row-fits height ok eh = first-fits g p k height ok (pl .place-below) eh
+
+  -- the rows of its record lie in its plane
+  pub record-in-plane : Sound g → (a : SliceAt) → a ≡ sliceAt frame g s → InPlane (planeHeight g (a .plane)) (a .first) (a .rows)
+  unfolding lay.sliceAt
+  record-in-plane ok a is =
+      rw is (place-begins g (planeIndex frame g s) (placeInPlane frame g s) (place-checked g ok (placeInPlane frame g s) (rw place-is at (pl .place-below))))
 
   pub slice-is : (start end height rows width flag kind : ℕ) (raw : Bool) → start ≡ sliceStart frame g s → end ≡ sliceEnd frame g s
       → height ≡ planeSliceHeight g p → rows ≡ rowsAt g p k → width ≡ planeWidth g p

@@ -10,7 +10,7 @@ use lib.ListN.{length, getD, drop, length-take}
 use lib.Pow.{pow-mono}
 use Rattle.scope.specs.Refusals.{refuseIf}
 use Rattle.scope.specs.Geometry as geo
-use Rattle.scope.specs.Geometry.{correlated, planeCount, sliceCount, planeWidth, rowsAt, allSamples, lengthsOf, swapped}
+use Rattle.scope.specs.Geometry.{correlated, planeCount, sliceCount, allSamples, lengthsOf, swapped}
 use Rattle.scope.specs.Layout as lay
 use Rattle.scope.specs.Layout.{planeIndex, placeInPlane, payloadOf, samplesIn}
 use Rattle.scope.specs.Words.{longest, shortest, need, wordAt}
@@ -29,14 +29,14 @@ use Rattle.refusals.proofs.Rows.{index-below}
 use Rattle.incoming.proofs.Refused as lent
 use Rattle.incoming.proofs.Refused.{depth-shallow, depth-deep}
 use Rattle.codes.proofs.Lookup.{looks-table}
-use Rattle.geometry.proofs.Places.{width-fits, slice-height-fits}
-use Rattle.geometry.proofs.Figures.{samples-most}
+use Rattle.geometry.proofs.Figures.{place-most}
 use Rattle.codes.specs.Reading.{Readable}
 use Rattle.reader.proofs.Chains.{code-readable}
 use Rattle.slice.proofs.Entry.{read-is, samples-is}
 use Rattle.slice.proofs.Passed.{passed-in}
 use Rattle.checks.specs.Slices.{framedBy, Shortests}
-use Rattle.checks.proofs.Sliced.{slice-in, prefix-in, raw-bits}
+use Rattle.checks.proofs.Sliced.{slice-none, slice-in, prefix-in}
+use Rattle.within.proofs.Within.{slice-whole}
 use Rattle.tables.specs.declared.Codes.{Codes}
 use Rattle.tables.specs.Codes.{codesOf}
 use Rattle.tables.specs.Tables.{planeNeed, Tables}
@@ -135,12 +135,10 @@ no-list n q xs ys e = cc
 
 -- ---- what the checks leave
 
--- a slice's samples are no more than the largest plane
+-- a slice's samples are no more than the largest plane's
 samples-most-in : (frame : List ℕ) (g : Geometry) (s : ℕ) → Sound g → samplesIn frame g s ≤ 268435456
-unfolding lay.samplesIn geo.rowsAt
-samples-most-in frame g s ok =
-    let r : rowsAt g (planeIndex frame g s) (placeInPlane frame g s) ≤ 16384 = unfold geo.rowsAt in (omega (arith, slice-height-fits g ok (planeIndex frame g s) .1)) in
-    samples-most (rowsAt g (planeIndex frame g s) (placeInPlane frame g s)) (planeWidth g (planeIndex frame g s)) r (width-fits g ok (planeIndex frame g s) .1)
+unfolding lay.samplesIn
+samples-most-in frame g s = place-most g (planeIndex frame g s) (placeInPlane frame g s)
 
 module _ (frame : List ℕ) (g : Geometry) (lengths : List ℕ) (c : Codes) (is : c ≡ codesOf g lengths) (w need : ℕ) (room : Answer) (en : need ≡ c .need) (er : room ≡ refuseIf (ltb w need) 11 Nothing)
     (a : Answer) (ea : a ≡ framedBy frame g (c .answer) room (c .shortest)) where
@@ -176,7 +174,7 @@ module _ (frame : List ℕ) (g : Geometry) (lengths : List ℕ) (c : Codes) (is 
     ready limit workspace ok few tb = record {
       sound = ok;
       indices = frame-order frame g lengths (roomCheck g lengths w) passed;
-      slices = λ s l. passed-in frame g s (prefix-in frame g lengths s (slice-passed s l)) (slice-in frame g lengths s (slice-passed s l)) (raw-bits frame g lengths s (slice-passed s l)) (samples-most-in frame g s ok);
+      slices = λ s l. passed-in frame g s (prefix-in frame g lengths s (slice-passed s l)) (slice-in frame g lengths s (slice-passed s l)) (slice-whole frame g lengths s (slice-none frame g lengths s (slice-passed s l))) (samples-most-in frame g s ok);
       starts = λ p l. omega (arith, stretch-long g lengths c is run-codes p l);
       ends = λ p l. stretch-room g lengths c is run-codes p l (length workspace) (tb .room);
       readable = λ p payload n l most. readable-own g lengths workspace c is run-codes tb p l limit payload n (omega (arith, lengths-most g lengths p, few)) most;

@@ -8,7 +8,6 @@ use mir.Syntax.{w64}
 use mir.Val.{Fits}
 use borrow.Rule.Slice.PartMut.{putMid}
 use lib.ListN.{length, getD, take, drop, length-take, length-drop}
-use Rattle.scope.specs.Geometry as geo
 use Rattle.scope.specs.Geometry.{planeCount, slicesPerPlane, sliceCount, planeWidth, planeHeight, firstRow, rowsAt, fields, rowStart}
 use Rattle.scope.specs.Layout as lay
 use Rattle.scope.specs.Layout.{planeIndex, placeInPlane, payloadOf, sliceAt}
@@ -18,8 +17,9 @@ use Rattle.scope.specs.declared.SliceAt.{SliceAt}
 use Rattle.scope.specs.declared.Answer.{Answer}
 use Rattle.scope.specs.declared.Answer.the-variants.{Done}
 use Rattle.geometry.specs.Sound.{Sound}
-use Rattle.geometry.proofs.Places.{planes-most, place-in, place-room, width-fits, height-fits}
+use Rattle.geometry.proofs.Places.{planes-most, place-room, width-fits, height-fits}
 use Rattle.layout.specs.Placed.{Placed}
+use Rattle.layout.proofs.Readers.{record-in-plane}
 use Rattle.codes.specs.Reading.{Readable}
 use Rattle.slice.specs.Slice.{payloadIn, SliceIn, readBy, samplesBy}
 use Rattle.tables.specs.declared.Codes.{Codes}
@@ -59,11 +59,6 @@ module _ (frame : List ℕ) (g : Geometry) (s : ℕ) (a : SliceAt) (is : a ≡ s
   unfolding lay.sliceAt
   at-width = rw is
 
--- the rows of a place lie in its plane
-place-rows-in : (g : Geometry) (ok : Sound g) (p k : ℕ) → k < slicesPerPlane g → firstRow g p k + rowsAt g p k ≤ planeHeight g p
-unfolding geo.rowsAt
-place-rows-in g ok p k l = omega (arith, place-in g ok p k l)
-
 -- ---- its rows
 
 module _ (frame : List ℕ) (g : Geometry) (s : ℕ) (a : SliceAt) (is : a ≡ sliceAt frame g s) (pl : Placed frame g s (a .plane) (a .place)) where
@@ -81,9 +76,7 @@ module _ (frame : List ℕ) (g : Geometry) (s : ℕ) (a : SliceAt) (is : a ≡ s
   plane-scaled = record { fits = omega (arith, plane-four) }
 
   pub rows-in : Sound g → a .first + a .rows ≤ planeHeight g (a .plane)
-  rows-in ok =
-      let e : planeHeight g (a .plane) ≡ planeHeight g (planeIndex frame g s) = ap (planeHeight g) (at-plane frame g s a is) in
-      omega (arith, e, at-first frame g s a is, at-rows frame g s a is, place-rows-in g ok (planeIndex frame g s) (placeInPlane frame g s) place-below)
+  rows-in ok = record-in-plane frame g s (a .plane) (a .place) pl ok a is .ends
 
   module _ (ok : Sound g) (r : Stretch) (er : r ≡ stretchOf g (a .plane) (a .first) (a .rows)) where
     start-is : r .at ≡ rowStart g (a .plane) (a .first)

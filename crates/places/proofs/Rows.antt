@@ -21,10 +21,10 @@ use Rattle.scope.specs.Frame.{wirePlane, colourPlane, bufferPlane, planesUpTo, 
 use Rattle.scope.specs.declared.Geometry.{Geometry}
 use Rattle.lists.proofs.Sums.{sum-next}
 use Rattle.lists.proofs.Tests.{and-both}
-use Rattle.geometry.proofs.Places.{order, place-in, sizes-alike, correlated-full, correlated-three}
+use Rattle.geometry.proofs.Places.{order, sizes-alike, correlated-full, correlated-three}
 use Rattle.places.proofs.Passed.{Passed}
 use Rattle.places.proofs.Samples.{Below, below-none, below-append}
-use Rattle.places.proofs.Planes.{wire-below, wire-long, plane-below, place-below, place-at}
+use Rattle.places.proofs.Planes.{wire-below, wire-long, plane-below, place-at}
 use Rattle.places.specs.Picture.{sampleAt, AllStand}
 use Rattle.places.proofs.Colours.{sum-same, colour-at, colour-long, colour-below}
 
@@ -118,8 +118,7 @@ module _ (frame : Bytes) (g : Geometry) (lengths : Lengths) (ok : Passed frame g
   -- the rows of a place lie in the plane
   row-in : (s : ℕ) → s < sliceCount g → (r : ℕ) → r < rowsAt g (planeIndex frame g s) (placeInPlane frame g s)
       → firstRow g (planeIndex frame g s) (placeInPlane frame g s) + r < planeHeight g (planeIndex frame g s)
-  unfolding geo.rowsAt
-  row-in s l r hr = omega (arith, place-in g (ok .sound) (planeIndex frame g s) (placeInPlane frame g s) (place-below frame g lengths ok s l))
+  row-in s l r hr = omega (arith, ok .in-plane s l .ends)
 
   -- G is as it was stored
   green-at : correlated (g .family) ≡ true → (p r x : ℕ) → r < planeHeight g p → x < planeWidth g p

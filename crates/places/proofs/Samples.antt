@@ -7,14 +7,13 @@ use Prim.Native.Nat.{ℕ, zero, suc, _+_, _-_, _^_, _≤_, _<_}
 use native.Mathlib.Decide.{decLe}
 use native.Mathlib.Nat.{zero-add, mod-lt}
 use native.Mathlib.Omega.{arith}
-use lib.ListN.{length, getD, drop, length-drop, List·getD-append, List·getD-eq-default}
+use lib.ListN.{length, getD, List·getD-append, List·getD-eq-default}
 use lib.Pow.{pow-pos}
-use lib.Seq.{length-take-le, getD-append-add}
+use lib.Seq.{getD-append-add}
 use Rattle.scope.specs.Base.{Bytes, Lengths, Samples, Step, grown}
-use Rattle.scope.specs.Geometry as geo
-use Rattle.scope.specs.Geometry.{sliceCount, planeWidth, rowsAt}
+use Rattle.scope.specs.Geometry.{sliceCount}
 use Rattle.scope.specs.Layout as lay
-use Rattle.scope.specs.Layout.{planeIndex, placeInPlane, sliceStart, sliceEnd, isRaw, payloadOf, samplesIn}
+use Rattle.scope.specs.Layout.{planeIndex, placeInPlane, isRaw, payloadOf, samplesIn}
 use Rattle.scope.specs.Bits.{rawSamples}
 use Rattle.scope.specs.Words as wds
 use Rattle.scope.specs.Words.{Chain, symbols, stuckAt, chain, wordAt, isStuck, symbolsOf}
@@ -25,9 +24,7 @@ use Rattle.scope.specs.declared.Geometry.{Geometry}
 use Rattle.memory.proofs.InPlace.{grown-length, grown-at}
 use Rattle.raw.proofs.Raw.{raw-first, raw-length}
 use Rattle.codes.proofs.Chains.{chain-length}
-use Rattle.geometry.proofs.Places.{width-fits, slice-height-fits}
-use Rattle.geometry.proofs.Figures.{samples-most}
-use Rattle.checks.proofs.Sliced.{slice-in, prefix-in, raw-bits}
+use Rattle.geometry.proofs.Figures.{place-most}
 use Rattle.places.proofs.Passed.{Passed}
 
 -- ---- how many
@@ -48,24 +45,15 @@ either-long false raw coded n h k e = k (symbolsOf coded) (symbols-are coded e)
 module _ (frame : Bytes) (g : Geometry) (lengths : Lengths) (ok : Passed frame g lengths) (s : ℕ) (l : s < sliceCount g) where
   -- the samples of a slice are no more than the largest plane's
   few : samplesIn frame g s ≤ 268435456
-  unfolding lay.samplesIn geo.rowsAt
-  few =
-      let r : rowsAt g (planeIndex frame g s) (placeInPlane frame g s) ≤ 16384 = unfold geo.rowsAt in (omega (arith, slice-height-fits g (ok .sound) (planeIndex frame g s) .1)) in
-      samples-most (rowsAt g (planeIndex frame g s) (placeInPlane frame g s)) (planeWidth g (planeIndex frame g s)) r (width-fits g (ok .sound) (planeIndex frame g s) .1)
+  unfolding lay.samplesIn
+  few = place-most g (planeIndex frame g s) (placeInPlane frame g s) (ok .sound)
 
-  -- the payload is what stands behind the prefix, all of it in the frame
-  payload-long : length (payloadOf frame g s) ≡ sliceEnd frame g s - (sliceStart frame g s + 2)
-  unfolding lay.payloadOf
-  payload-long =
-      length-take-le (sliceEnd frame g s - (sliceStart frame g s + 2)) (drop (sliceStart frame g s + 2) frame)
-      (rw length-drop (omega (arith, prefix-in frame g lengths s (ok .checked s l), slice-in frame g lengths s (ok .checked s l))))
-
-  -- a raw slice has a residue for each sample: 12 saw to its bytes
+  -- a raw slice has a residue for each sample, since it has all its bytes
   raw-long : isRaw frame g s ≡ true → length (rawSamples (g .depth) (payloadOf frame g s) (samplesIn frame g s)) ≡ samplesIn frame g s
   raw-long e =
       ap length (sym (raw-first (g .depth) (payloadOf frame g s) (samplesIn frame g s)))
       ∙ raw-length (g .depth) (payloadOf frame g s) 0 (samplesIn frame g s) (record {
-        room = rw (payload-long, zero-add (samplesIn frame g s)) (omega (arith, raw-bits frame g lengths s (ok .checked s l) e));
+        room = rw (zero-add (samplesIn frame g s)) (omega (arith, ok .whole s l e .bytes));
         most = omega (arith, few);
       })
 

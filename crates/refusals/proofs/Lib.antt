@@ -1,4 +1,5 @@
 pub mod InOrder
+pub mod None
 pub mod Rows
 pub mod Outcomes
 pub mod Places

@@ -15,6 +15,8 @@ use Rattle.scope.specs.Bits.{rawSamples}
 use Rattle.scope.specs.Words.{symbols}
 use Rattle.scope.specs.declared.SliceAt.{SliceAt}
 use Rattle.scope.specs.declared.Found.{Found}
+use Rattle.within.specs.Within.{AllBytes}
+use Rattle.within.proofs.Within.{all-bytes}
 use Rattle.raw.specs.Raw.{RawIn}
 use Rattle.reader.specs.Reading as rdg
 use Rattle.reader.specs.Reading.{reached, WordsRead}
@@ -33,12 +35,13 @@ module _ (depth : ℕ) (frame : List ℕ) (a : SliceAt) (w : SliceIn depth frame
   pub payload-long : length (payloadIn frame a) ≡ a .end - (a .start + 2)
   payload-long = length-take-le (a .end - (a .start + 2)) (drop (a .start + 2) frame) (rw length-drop (omega (arith, w .prefix, w .inside)))
 
-  -- what the reading of its raw samples asks
+  -- a raw one has all its bytes: the bits of its last sample end within the payload
+  payload-whole : a .raw ≡ true → AllBytes depth (a .rows * a .width) (payloadIn frame a)
+  payload-whole h = all-bytes depth (a .rows * a .width) (payloadIn frame a) (omega (arith, payload-long, w .room h))
+
+  -- which is what the reading of its raw samples asks
   pub payload-asked : a .raw ≡ true → RawIn depth (payloadIn frame a) 0 (a .rows * a .width)
-  payload-asked h = record {
-    room = rw (payload-long, zero-add (a .rows * a .width)) (w .room h);
-    most = omega (arith, w .most);
-  }
+  payload-asked h = record { room = rw (zero-add (a .rows * a .width)) (omega (arith, payload-whole h .bytes)); most = omega (arith, w .most) }
 
   -- where they end is a number of 64 bits
   pub samples-fit : Fits w64 (a .rows * a .width)

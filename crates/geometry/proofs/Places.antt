@@ -64,10 +64,6 @@ module _ (g : Geometry) (ok : Sound g) where
   pub place-checked : (k : ℕ) → k < slicesPerPlane g → PlaceChecked g k
   place-checked k l = record { height = ok .even-height; slices = ok .even-slices; place = l }
 
-  -- K places cover the plane
-  pub covered : (p : ℕ) → planeHeight g p ≤ firstRow g p (slicesPerPlane g)
-  covered p = no-place-beyond g p (slicesPerPlane g) (ok .sliced .0) (ok .even-slices) (omega arith)
-
   -- K is 1 to 16,384
   pub slices-most : slicesPerPlane g ≤ 16384
   slices-most =
@@ -92,7 +88,7 @@ module _ (g : Geometry) (ok : Sound g) where
   pub filled-all : (p : ℕ) → filled g p (slicesPerPlane g) ≡ planeSamples g p
   unfolding places.filled geo.planeSamples
   filled-all p =
-      let e : min (firstRow g p (slicesPerPlane g)) (planeHeight g p) ≡ planeHeight g p = omega (arith, covered p) in
+      let e : min (firstRow g p (slicesPerPlane g)) (planeHeight g p) ≡ planeHeight g p = omega (arith, no-place-beyond g p (slicesPerPlane g) (ok .sliced .0) (ok .even-slices) (omega arith)) in
       rw e (mul-comm _ _)
 
   -- place k starts where the places before it end

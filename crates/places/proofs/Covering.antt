@@ -11,8 +11,8 @@ use Rattle.scope.specs.Geometry.{planeCount, slicesPerPlane, sliceCount, planeH
 use Rattle.scope.specs.Layout as lay
 use Rattle.scope.specs.Layout.{planeIndex, namedBefore, placeInPlane}
 use Rattle.scope.specs.declared.Geometry.{Geometry}
-use Rattle.geometry.proofs.Places as plc
 use Rattle.geometry.proofs.Places.{slice-height-fits}
+use Rattle.within.proofs.Within.{no-place-beyond}
 use Rattle.layout.proofs.Slices.{named-here, named-other, named-all}
 use Rattle.places.specs.Picture.{Covers}
 use Rattle.places.proofs.Passed.{Passed}
@@ -80,7 +80,7 @@ module _ (frame : Bytes) (g : Geometry) (lengths : Lengths) (ok : Passed frame g
   pub row-covered : (p r : ℕ) → p < planeCount g → r < planeHeight g p → (s : ℕ) × Covers frame g p r s
   row-covered p r lp lr =
       let some : 1 ≤ planeSliceHeight g p = slice-height-fits g (ok .sound) p .0 in
-      let k : r / planeSliceHeight g p < slicesPerPlane g = div-lt-iff-lt-mul some .1 (omega (arith, plc.covered g (ok .sound) p)) in
+      let k : r / planeSliceHeight g p < slicesPerPlane g = div-lt-iff-lt-mul some .1 (omega (arith, no-place-beyond g p (slicesPerPlane g) (ok .sound .sliced .0) (ok .sound .even-slices) (omega arith))) in
       let c : Numbered frame g p (r / planeSliceHeight g p) (sliceCount g) = numbered frame g p (r / planeSliceHeight g p) (sliceCount g) (omega (arith, k, named-all frame g (ok .indices) p lp)) in
       (c .slice, covers p r lr c)
 

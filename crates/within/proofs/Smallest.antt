@@ -21,6 +21,7 @@ without-2 : Without2
 unfolding opened
 without-2 =
     record {
+      size-is = refl;
       just = refl;
       stands = record { first-is = refl; height-is = refl; rows-is = refl };
       fails = λ c. omega (arith, c .begins);
@@ -30,6 +31,7 @@ without-3 : Without3
 unfolding opened
 without-3 =
     record {
+      size-is = refl;
       just = refl;
       stands = record { first-is = refl; height-is = refl; rows-is = refl };
       fails = λ c. omega (arith, c .some);
@@ -39,6 +41,7 @@ without-8 : Without8
 unfolding opened
 without-8 =
     record {
+      size-is = refl;
       just = refl;
       stands = record { first-is = refl; height-is = refl; rows-is = refl };
       fails = λ c. omega (arith, c .begins);
@@ -48,6 +51,7 @@ past-the-last : PastTheLast
 unfolding opened
 past-the-last =
     record {
+      size-is = refl;
       just = refl;
       stands = record { first-is = refl; height-is = refl; rows-is = refl };
       fails = λ c. omega (arith, c .begins);
@@ -64,17 +68,17 @@ without-3-beyond = record { just = refl; k-is = refl; first-is = refl; height-is
 without-12-by-bounds : Without12ByBounds
 unfolding opened
 without-12-by-bounds =
-    record { before = refl; just = refl; raw-is = refl; samples-is = refl; bytes-is = refl; fails = λ c. omega (arith, c .bytes) }
+    record { size-is = refl; before = refl; just = refl; raw-is = refl; samples-is = refl; bytes-is = refl; fails = λ c. omega (arith, c .bytes) }
 
 without-12-by-size : Without12BySize
 unfolding opened
 without-12-by-size =
-    record { before = refl; just = refl; raw-is = refl; samples-is = refl; bytes-is = refl; fails = λ c. omega (arith, c .bytes) }
+    record { size-is = refl; before = refl; just = refl; raw-is = refl; samples-is = refl; bytes-is = refl; fails = λ c. omega (arith, c .bytes) }
 
 without-raw : WithoutRaw
 unfolding opened
 without-raw =
-    record { before = refl; just = refl; raw-is = refl; samples-is = refl; bytes-is = refl; fails = λ c. omega (arith, c .bytes) }
+    record { size-is = refl; before = refl; just = refl; raw-is = refl; samples-is = refl; bytes-is = refl; fails = λ c. omega (arith, c .bytes) }
 
 -- every bound is met exactly
 tight : Tight

@@ -206,7 +206,7 @@ count-some g p k e h = rw e (mul-le-mul (planes-some (g .family)) h)
 
 module _ (g : Geometry) (p k b : ℕ) (ok : Sound g) (lk : k < slicesPerPlane g) (eb : b ≡ planeSliceHeight g p) where
   -- the place's first row
-  pub first-in : k * b ≤ planeHeight g p
+  first-in : k * b ≤ planeHeight g p
   first-in = rw eb (omega (arith, place-begins g p k (place-checked g ok k lk) .begins))
 
   -- the place's first row fits 64 bits

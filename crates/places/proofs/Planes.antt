@@ -92,7 +92,7 @@ module _ (frame : Bytes) (g : Geometry) (lengths : Lengths) (ok : Passed frame g
   plane-below s l = index-below frame g s (each-passed (indexCheck frame g) (sliceCount g) s (ok .indices) l)
 
   -- and its place is one of that plane's K
-  pub place-below : (s : ℕ) → s < sliceCount g → placeInPlane frame g s < slicesPerPlane g
+  place-below : (s : ℕ) → s < sliceCount g → placeInPlane frame g s < slicesPerPlane g
   place-below s l = index-room frame g s (each-passed (indexCheck frame g) (sliceCount g) s (ok .indices) l)
 
   -- one more slice fills one more place of its plane

@@ -5,6 +5,7 @@
 use crate::domain::{self, Standing};
 use crate::left;
 use crate::made_of::made_of;
+use crate::never::Check;
 use crate::our_side::{Lent, Ours, Outcome};
 use crate::rng::Rng;
 use crate::rust_side::{self, Said};
@@ -19,6 +20,8 @@ pub struct Comparison {
     pub ours: Ours,
     /// The counts.
     pub tally: Tally,
+    /// What the count of two checks that never fire leaves out.
+    pub leave_out: Option<Check>,
 }
 
 /// The entry for a depth.
@@ -41,7 +44,7 @@ enum Asked<'a> {
 impl Comparison {
     /// A comparison with nothing counted yet.
     pub fn new(ours: Ours) -> Comparison {
-        Comparison { ours, tally: Tally::default() }
+        Comparison { ours, tally: Tally::default(), leave_out: None }
     }
 
     /// Gives one frame to both sides. `seed` decides the noise and what else is lent.
@@ -120,6 +123,7 @@ impl Comparison {
             }
             Asked::Nothing => self.by_document(&lent, seed)?,
         };
+        self.tally.never.frame(&lent, self.leave_out)?;
         self.lent_otherwise(&lent, answer, need, &mut rng)
     }
 

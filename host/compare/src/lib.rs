@@ -12,6 +12,7 @@ pub mod frame_check;
 pub mod known_frames;
 pub mod left;
 pub mod made_of;
+pub mod never;
 pub mod our_side;
 pub mod rng;
 pub mod run;

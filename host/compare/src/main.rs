@@ -7,14 +7,18 @@
 //!   `--largest`: with the largest plane (some gigabytes of memory);
 //! * `--seed N`; `--case N`: only that random frame of the seed, shown;
 //! * `--spoil sample|place|word|left`, `--spoil-at N`: spoils the N-th suitable outcome of our side;
+//! * `--leave-out 2|3|8|bounds|size`: in the count of two checks that never fire, what this check alone
+//!   refuses counts as passed;
 //! * `--findings`: what differs outside document 01's domain, with the inputs.
 //!
-//! Exit status 1 when a difference is found inside the domain.
+//! Exit status 1 when a difference is found inside the domain, and when there was nothing to spoil or
+//! to leave out.
 #![forbid(unsafe_code)]
 
 mod findings;
 
 use compare::frame_check::Comparison;
+use compare::never::Check;
 use compare::our_side::{Ours, Spoil, SpoilKind};
 use compare::run::{self, Plan};
 use compare::rust_side;
@@ -30,6 +34,7 @@ const DEFAULT: Plan = Plan {
     small: true,
     largest: false,
     spoil: None,
+    leave_out: None,
 };
 
 enum Command {
@@ -53,6 +58,12 @@ fn spoil_kind(word: Option<String>) -> Result<SpoilKind, String> {
     }
 }
 
+fn check(word: Option<String>) -> Result<Check, String> {
+    let named = |check: &Check| Some(check.word()) == word.as_deref();
+    let check = Check::ALL.into_iter().find(named);
+    check.ok_or("--leave-out takes 2, 3, 8, bounds or size".into())
+}
+
 fn command(mut words: impl Iterator<Item = String>) -> Result<Command, String> {
     let mut plan = DEFAULT;
     let (mut kind, mut at, mut case) = (None, 1_000, None);
@@ -66,6 +77,7 @@ fn command(mut words: impl Iterator<Item = String>) -> Result<Command, String> {
             "--largest" => plan.largest = true,
             "--spoil" => kind = Some(spoil_kind(words.next())?),
             "--spoil-at" => at = number(words.next())?,
+            "--leave-out" => plan.leave_out = Some(check(words.next())?),
             "--case" => case = Some(number(words.next())?),
             "--findings" => return Ok(Command::Findings),
             other => return Err(format!("{other} is no word of this command")),
@@ -90,6 +102,10 @@ fn run_plan(plan: &Plan) -> ExitCode {
     print!("{}", comparison.tally.report());
     if let Some(suited) = comparison.ours.nothing_spoiled() {
         println!("NOTHING WAS SPOILED: {suited} inputs suit, and --spoil-at asks for a later one");
+        return ExitCode::FAILURE;
+    }
+    if let Some(suited) = comparison.tally.never.nothing_left_out(plan.leave_out) {
+        println!("NOTHING WAS LEFT OUT: {suited} frames or slices suit, and none of them fires");
         return ExitCode::FAILURE;
     }
     if found.count == 0 {

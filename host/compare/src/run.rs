@@ -3,6 +3,7 @@
 use crate::codes;
 use crate::draft;
 use crate::frame_check::Comparison;
+use crate::never::Check;
 use crate::our_side::{Ours, Spoil};
 use crate::rng::Rng;
 use crate::shrink::shrink;
@@ -28,6 +29,8 @@ pub struct Plan {
     pub largest: bool,
     /// What is spoiled on our side.
     pub spoil: Option<Spoil>,
+    /// What the count of two checks that never fire leaves out.
+    pub leave_out: Option<Check>,
 }
 
 /// One difference.
@@ -191,6 +194,7 @@ fn payload(rng: &mut Rng, lengths: &[u8], samples: usize) -> Vec<u8> {
 /// Runs a plan.
 pub fn run(plan: &Plan) -> (Comparison, Differences) {
     let mut comparison = Comparison::new(Ours::new(plan.spoil));
+    comparison.leave_out = plan.leave_out;
     let mut found = Differences::default();
     for case in 0..plan.frames {
         found.frame(&mut comparison, &random_frame(plan.seed, case), plan.seed ^ case);

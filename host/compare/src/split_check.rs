@@ -83,6 +83,7 @@ impl Comparison {
         };
         let answer = self.by_document(&lent, seed)?;
         self.tally.split[answer.number() as usize] += 1;
+        self.tally.never.frame(&lent, self.leave_out)?;
         if lengths.iter().any(|l| *l > draft.format.cap()) {
             self.tally.outside("a length above the Rust's cap, by planes");
             return Ok(());

@@ -1,6 +1,7 @@
 //! Counts of a run: by refusal number inside document 01's domain, by reason outside of it, and by
 //! what the frames were made of.
 
+use crate::never::Never;
 use std::collections::BTreeMap;
 
 /// The counts.
@@ -22,6 +23,8 @@ pub struct Tally {
     pub accepted: BTreeMap<String, u64>,
     /// Accepted frames by what was in them.
     pub made_of: BTreeMap<String, u64>,
+    /// Slices for which one of two checks would fire.
+    pub never: Never,
     /// Tables by themselves, by answer.
     pub tables: [u64; 16],
     /// Readings by themselves, by answer.
@@ -63,6 +66,7 @@ impl Tally {
             row("geometries that the Rust cannot express, plane by plane, by answer:", &self.split),
             map("accepted frames:", &self.accepted),
             map("accepted frames with:", &self.made_of),
+            self.never.report(),
             row("tables by themselves:", &self.tables),
             row("readings by themselves:", &self.readings),
             map("by themselves, outside the domain:", &self.alone_outside),

@@ -1,13 +1,24 @@
-//! The comparison's smaller run (about a minute with everything in it), and each spoiling seen red.
+//! The comparison's smaller run (about a minute with everything in it), and each spoiling and each
+//! left-out check seen red.
 
+use compare::never::{Check, Never};
 use compare::our_side::{Spoil, SpoilKind};
 use compare::run::{run, Plan};
+use compare::tally::Tally;
 use magicyuv_host::formats::{Format, FORMATS};
 use magicyuv_host::Family;
 use oracle::tables::{self, Family as Theirs};
 
-const PLAN: Plan =
-    Plan { seed: 11, frames: 0, split: 0, alone: 0, small: false, largest: false, spoil: None };
+const PLAN: Plan = Plan {
+    seed: 11,
+    frames: 0,
+    split: 0,
+    alone: 0,
+    small: false,
+    largest: false,
+    spoil: None,
+    leave_out: None,
+};
 
 #[test]
 fn random_frames_agree_and_reach_every_row() {
@@ -21,6 +32,33 @@ fn random_frames_agree_and_reach_every_row() {
         assert!(tally.lent[number] > 0, "number {number} was not reached");
     }
     assert_eq!(tally.accepted.len(), FORMATS.len());
+    for check in [Check::Two, Check::Eight, Check::Bounds, Check::Size] {
+        assert!(
+            would_fire(&tally.never, check) > 0,
+            "{check:?} refuses nothing for which one fires"
+        );
+    }
+    counted_by_the_answers(&tally);
+}
+
+/// Slices for which one of the two checks that never fire would, of those that this check alone refuses.
+fn would_fire(never: &Never, check: Check) -> u64 {
+    match check {
+        Check::Two | Check::Eight => never.begun(Some(check)).below,
+        Check::Three => never.begun(Some(check)).rowless,
+        Check::Bounds | Check::Size => never.raw(Some(check)).short,
+    }
+}
+
+/// The frames that count as passed are those whose answers say so.
+fn counted_by_the_answers(tally: &Tally) {
+    let above_cap = tally.outside["a length above the Rust's cap, not above 18"];
+    let by_answer = |number: usize| tally.domain[number] + tally.split[number];
+    let past_8 = by_answer(0) + (9..16).map(by_answer).sum::<u64>() + above_cap;
+    assert_eq!(tally.never.begun(None).frames, past_8);
+    let least = by_answer(0) + by_answer(15);
+    assert!((least..=least + by_answer(14) + above_cap).contains(&tally.never.checked()));
+    assert!(tally.never.raw(None).slices > 0);
 }
 
 #[test]
@@ -49,6 +87,21 @@ fn every_spoiling_is_reported() {
         let (_, found) = run(&Plan { alone: 1_000, spoil, ..PLAN });
         assert_eq!(found.count, 1, "{kind:?} by itself");
     }
+}
+
+#[test]
+fn every_left_out_check_is_reported() {
+    let plan = Plan { seed: 2, frames: 1_000, ..PLAN };
+    let (comparison, found) = run(&plan);
+    assert_eq!(found.count, 0, "{}", found.report());
+    for check in Check::ALL {
+        assert!(would_fire(&comparison.tally.never, check) > 0, "{check:?} refuses nothing");
+        let (bent, found) = run(&Plan { leave_out: Some(check), ..plan });
+        assert!(found.report().contains(&format!("({} left out): ", check.word())), "{check:?}");
+        assert_eq!(bent.tally.never.nothing_left_out(Some(check)), None);
+    }
+    let (nothing, found) = run(&Plan { leave_out: Some(Check::Two), ..PLAN });
+    assert_eq!((nothing.tally.never.nothing_left_out(Some(Check::Two)), found.count), (Some(0), 0));
 }
 
 fn family(theirs: Theirs) -> Family {

@@ -1,4 +1,6 @@
 // Document 01, "Words and lookup": a table built by itself, and a reading by itself. Demand 3 is about these two.
+#![tactic(auto)]
+
 ghost use Rattle.std.specs.Prelude.{◌^◌, length};
 ghost use Rattle.scope.specs.Lookup.{lookup_in};
 ghost use Rattle.scope.specs.Alone.{BuiltAlone, ReadAlone};
@@ -12,7 +14,7 @@ use scope::{Answer, Place};
 use words::{Weighed, weigh};
 
 // What building gives: the longest length, which a reading needs beside the table; or a refusal with its number and place.
-#[derive(Drop)]
+#[derive(Clone, Copy)]
 pub(crate) enum Built {
     Table(usize),
     Refused(u32, Place),

@@ -1,4 +1,6 @@
 // Document 01, "Layout": the bits of a payload, highest bit of each byte first and zero past the end.
+#![tactic(auto)]
+
 ghost use Rattle.std.specs.Prelude.{◌≡◌, ◌+◌, ◌*◌, ◌/◌, ◌<◌, ◌≤◌, ◌^◌, length, get_or};
 ghost use Rattle.scope.specs.Bits.{window};
 

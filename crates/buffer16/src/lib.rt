@@ -1,6 +1,8 @@
 // The plane buffer at 16 bits a sample: set to zero, one stretch of it added to a later one, rows of it added to later rows, and G
 // added to B' and R'. Document 01, "Refusal numbers" ("leave both wholly zero") and "Prediction, slice by slice" ("B and R are
 // B'+G and R'+G modulo 2^depth"). The laws of these loops stand in memory and planes, once for both widths.
+#![tactic(auto)]
+
 ghost use Rattle.std.specs.Prelude.{◌≡◌, ◌+◌, ◌≤◌, ◌<◌, length};
 ghost use Rattle.scope.specs.Base.{zeros};
 ghost use Rattle.scope.specs.Geometry.{all_samples};

@@ -1,6 +1,8 @@
 // Document 01, "Words and lookup": a plane's table written into its stretch of the workspace. One part of slots up to 12 bits; above
 // that a first part of 4,096 slots and a second part, whose slots are the numbers of all bits of the longest length. After the
 // lengths are counted, one pass over them writes each word into the slots that begin with it.
+#![tactic(auto)]
+
 ghost use Rattle.std.specs.Prelude.{◌≡◌, ◌+◌, ◌*◌, ◌-◌, ◌^◌, ◌≤◌, ◌<◌, length};
 ghost use Rattle.scope.specs.Words.{longest, shares, need};
 ghost use Rattle.scope.specs.Lookup.{table_of};

@@ -3,6 +3,8 @@
 // numbers", says what memory holds after an answer: the list stores that for the planes, whatever the answer is. Planes are lent
 // with the complement of it at each place, so that a decoder that writes nothing, or trusts what it finds, is seen; after
 // refusals 1 to 4, which leave memory as found, they are lent with it.
+#![tactic(auto)]
+
 ghost use Rattle.std.specs.Prelude.{◌≡◌, ◌+◌, ◌*◌, ◌/◌, ◌≤◌, length, leb};
 ghost use Rattle.scope.specs.Base.{list_below, one};
 ghost use Rattle.scope.specs.Layout.{le32};
@@ -14,7 +16,7 @@ use layout::le32_at;
 // ---- the form
 
 // The geometry that an entry is called with.
-#[derive(Drop)]
+#[derive(Clone, Copy)]
 pub struct Shape {
     pub width: u32,
     pub height: u32,
@@ -27,7 +29,7 @@ pub struct Shape {
 }
 
 // An answer: document 01's number (0 for planes), the kind of its place (0 nothing, 1 a slice, 2 a plane), which one.
-#[derive(Drop)]
+#[derive(Clone, Copy)]
 pub struct Told {
     pub number: u32,
     pub kind: u32,
@@ -36,7 +38,7 @@ pub struct Told {
 
 // The numbers of a case: the entry, 8 or 16, and its geometry; how much is lent; the stored answer; and where in the case what the
 // planes must hold afterwards begins, then the frame, and where the case ends. The runs of lengths begin at 76.
-#[derive(Drop)]
+#[derive(Clone, Copy)]
 pub struct Case {
     pub entry: u32,
     pub shape: Shape,
@@ -265,7 +267,7 @@ pub fn holds_words(words: &[u32], number: u32) -> bool
 // ---- the verdict
 
 // A case came out as stored; or what did not; or its bytes are not of the form, or ask for more memory than there is.
-#[derive(Drop)]
+#[derive(Clone, Copy)]
 pub enum Verdict {
     Right,
     Number,

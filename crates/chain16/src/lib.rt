@@ -1,6 +1,8 @@
 // Document 01, "Words and lookup": "the table reading takes every sample from that lookup". Words one after the other from a bit position
 // on, by a table, into samples of 16 bits: as many as a buffer has places, or row by row into rows that stand every pitch elements. The
 // other width has a twin of this crate.
+#![tactic(auto)]
+
 ghost use Rattle.std.specs.Prelude.{◌≡◌, ◌*◌, ◌^◌, length};
 ghost use Rattle.scope.specs.Lookup.{lookup_in};
 ghost use Rattle.codes.specs.Reading.{Readable};

@@ -1,6 +1,8 @@
 // Document 01, "Refusal numbers", 12 to 14 of every slice before any is read (its bounds, its two bytes of prefix, that its plane has
 // words where it is coded, and its size), and 5 to 14 in the table's order. What the lengths and the workspace answer (9 to 11) comes
 // in as answers, so that an entry without a workspace has no second chain of checks. Nothing is written.
+#![tactic(auto)]
+
 ghost use Rattle.std.specs.Prelude.{◌≡◌, ◌*◌, ◌<◌, ◌≤◌, ltb};
 ghost use Rattle.scope.specs.Refusals.{refuse_if};
 ghost use Rattle.scope.specs.Geometry.{slice_count};

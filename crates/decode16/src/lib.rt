@@ -1,5 +1,7 @@
 // Document 01's entry for depths 10, 12 and 14: the checks, every slice read in wire order into its own rows of the planes, G added, and what is
 // left in lent memory. Crate decode8 is the same for depth 8.
+#![tactic(auto)]
+
 ghost use Rattle.std.specs.Prelude.{◌≡◌, ◌*◌, ◌^◌, ◌<◌, length};
 ghost use Rattle.scope.specs.Geometry.{plane_count, slice_count};
 ghost use Rattle.scope.specs.Layout.{slice_at};

@@ -1,5 +1,7 @@
 // Document 01's entry for depth 8: the checks, every slice read in wire order into its own rows of the planes, G added, and what is
 // left in lent memory. Crate decode16 is the same for depths 10, 12 and 14.
+#![tactic(auto)]
+
 ghost use Rattle.std.specs.Prelude.{◌≡◌, ◌*◌, ◌^◌, ◌<◌, length};
 ghost use Rattle.scope.specs.Geometry.{plane_count, slice_count};
 ghost use Rattle.scope.specs.Layout.{slice_at};

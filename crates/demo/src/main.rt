@@ -3,6 +3,8 @@
 // the plane buffer, and whether the workspace is zero. Samples are 170 throughout before each call, and the workspace 9, so that
 // nothing printed can be what was there. The file stdout beside src/ has what must be printed: the pictures that the frames were
 // made from, and what document 01 says.
+#![tactic(auto)]
+
 mod coded;
 mod frames;
 mod put;

@@ -1,4 +1,6 @@
 // Document 01, "What comes in": what a family and a depth say by themselves. The laws of all figures of a geometry stand in proofs/.
+#![tactic(auto)]
+
 ghost use Rattle.std.specs.Prelude.{◌≡◌, ◌≤◌, ◌^◌};
 ghost use Rattle.scope.specs.Geometry.{planes_of, subsampled, correlated, fields};
 

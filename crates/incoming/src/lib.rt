@@ -1,4 +1,6 @@
 // Document 01, "Refusal numbers", 1 to 4: what is lent, judged before anything else is looked at. Every number is allowed.
+#![tactic(auto)]
+
 ghost use Rattle.std.specs.Prelude.{◌≡◌, ◌%◌, ◌≤◌, eqb};
 ghost use Rattle.scope.specs.Geometry.{size_fits, factor_fits, depth_fits, geometry_fits};
 ghost use Rattle.scope.specs.Pieces.{lent_checks};

@@ -1,6 +1,8 @@
 // Words out of a window of 64 bits that is kept from word to word (document 01, "Words and lookup"; why so, docs/DECISIONS.md, 41). This crate
 // has the window: how it begins, which bits follow it, and which word it begins with. The loops at both widths (kept8, kept16) shift words
 // out of it and add the bits that follow; what they read is what `lookup` finds, and they leave a payload's end to the thin reader.
+#![tactic(auto)]
+
 ghost use Rattle.std.specs.Prelude.{◌≡◌, ◌+◌, ◌-◌, ◌/◌, ◌%◌, ◌<◌, ◌≤◌, min, length};
 ghost use Rattle.scope.specs.Bits.{window};
 ghost use Rattle.kept.specs.Kept.{top_bits, entry_in};
@@ -9,7 +11,7 @@ use bits::eight;
 use lookup::word;
 
 // What a group of words leaves: the window without them, the bits that are gone from it, and how many words they are.
-#[derive(Drop)]
+#[derive(Clone, Copy)]
 pub struct Group {
     pub window: u64,
     pub bits: usize,
@@ -17,7 +19,7 @@ pub struct Group {
 }
 
 // What a turn leaves: the window, where its last word begins, the bits of that word, and how many words it has.
-#[derive(Drop)]
+#[derive(Clone, Copy)]
 pub struct Turn {
     pub window: u64,
     pub start: usize,
@@ -26,7 +28,7 @@ pub struct Turn {
 }
 
 // Where a reading out of the window stands: behind its last word, and after how many.
-#[derive(Drop)]
+#[derive(Clone, Copy)]
 pub struct Went {
     pub end: usize,
     pub count: usize,

@@ -1,6 +1,8 @@
 // Document 01, "Words and lookup": "the table reading takes every sample from that lookup". Words one after the other out of a window of 64
 // bits that is kept (crate kept), into samples of 16 bits, while the payload has sixteen bytes from the position's own byte on. What is
 // left, and whatever is no word, is for the thin reader: chain16 goes on from here. The other width has a twin of this crate.
+#![tactic(auto)]
+
 ghost use Rattle.std.specs.Prelude.{◌≡◌, ◌+◌, ◌-◌, ◌*◌, ◌/◌, ◌%◌, ◌<◌, ◌≤◌, ◌^◌, length};
 ghost use Rattle.scope.specs.Bits.{window};
 ghost use Rattle.scope.specs.Lookup.{lookup_in};

@@ -1,5 +1,7 @@
 // Document 01, "Layout": the named readers of a frame, through which alone it is read. A byte past the frame's end reads as 0, as the
 // definitions have it, so that every reader has an answer; the checks refuse a frame that is too short before anything of it is used.
+#![tactic(auto)]
+
 ghost use Rattle.std.specs.Prelude.{◌≡◌, ◌+◌, ◌*◌, ◌%◌, ◌<◌, ◌≤◌, ◌^◌, eqb, get_or};
 ghost use Rattle.scope.specs.Geometry.{slice_count};
 ghost use Rattle.scope.specs.Layout.{le32, preamble_end, count_byte, plane_index, slice_start, slice_end, slice_at};

@@ -40,6 +40,7 @@ module _ (f : ℕ → ℕ) (K : ℕ) where
   -- and where they come to that, none is less
   pub all_full : (n : ℕ) → ((p : ℕ) → p < n → f p ≤ K) → sum_below n f ≡ n * K → (p : ℕ) → p < n → f p ≡ K
   unfolding base.sum_below
+  all_full zero h e p l = elim l [ ]
   all_full (suc n) h e p l = go (ℕ_discrete p n) (all_full n (λ q k. h q (omega arith)))
     where
       below : (q : ℕ) → q < n → f q ≤ K
@@ -57,6 +58,7 @@ sum_same f h (suc n) e = omega (arith, sum_same f h n (λ p l. e p (omega arith)
 -- one of the counts goes up by one
 pub sum_one_more : (f : ℕ → ℕ) (q n : ℕ) → q < n → sum_below n (λ p. f p + one (eqb q p)) ≡ sum_below n f + 1
 unfolding base.sum_below
+sum_one_more f q zero l = elim l [ ]
 sum_one_more f q (suc n) l = go (ℕ_discrete q n) (sum_one_more f q n)
   where
     go : Dec (q ≡ n) → (q < n → sum_below n (λ p. f p + one (eqb q p)) ≡ sum_below n f + 1) → sum_below n (λ p. f p + one (eqb q p)) + (f n + one (eqb q n)) ≡ sum_below n f + f n + 1

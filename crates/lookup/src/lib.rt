@@ -1,4 +1,6 @@
 // Document 01, "Words and lookup": the lookup, "from these and m alone, without the lengths".
+#![tactic(auto)]
+
 ghost use Rattle.std.specs.Prelude.{◌≡◌, get_or};
 ghost use Rattle.scope.specs.Lookup.{unpacked, lookup_in};
 

@@ -1,6 +1,7 @@
 // The host's boundary: the product's functions as extern "C", on numbers and slices. An enum cannot cross it, so a Reply of three
 // numbers stands in for the answer; each function is proved to reply just the answer's number and place.
 // entry8.rt has the frame entry for depth 8, entry16.rt the one for depths 10, 12 and 14.
+#![tactic(auto)]
 
 mod entry16;
 mod entry8;
@@ -15,7 +16,7 @@ use scope::{Answer, Family, Place};
 
 // 0 for planes, or the refusal's number; 0 nothing, 1 a slice, 2 a plane; and which one.
 #[repr(C)]
-#[derive(Drop)]
+#[derive(Clone, Copy)]
 pub struct Reply {
     pub number: u32,
     pub kind: u32,

@@ -1,6 +1,8 @@
 // Lent memory: a workspace set to zero, and the sum of two samples modulo 2^depth. Document 01, "Refusal numbers" ("leave both wholly
 // zero") and "All sums are modulo 2^depth". The law of a loop that rebuilds a list in place stands in proofs/InPlace.antt, once for
 // every element and every step; buffer8 and buffer16 have the loops over samples.
+#![tactic(auto)]
+
 ghost use Rattle.std.specs.Prelude.{◌≡◌, ◌+◌, ◌%◌, ◌^◌, ◌≤◌};
 ghost use Rattle.scope.specs.Base.{zeros};
 

@@ -1,5 +1,7 @@
 // Document 01, "Refusal numbers", 5 to 8: whether the frame's entries and its preamble are there, and whether every plane gets its K
 // slices. Nothing is written.
+#![tactic(auto)]
+
 ghost use Rattle.std.specs.Prelude.{◌≡◌};
 ghost use Rattle.scope.specs.Geometry.{slice_count};
 ghost use Rattle.scope.specs.Pieces.{in_order, preamble_checks, index_check};

@@ -1,6 +1,8 @@
 // Rebuilds a slice's samples from its residues, in place, at a depth above 8. Document 01, "Prediction, slice by slice". A slice is rows of
 // one width, every pitch elements; the row function of rows16 knows only where a row starts and ends and how far back the row f up
 // stands. Gaps between rows stay as they were.
+#![tactic(auto)]
+
 ghost use Rattle.std.specs.Prelude.{◌≡◌, ◌≤◌, ◌<◌, length};
 ghost use Rattle.scope.specs.Prediction.{samples_of};
 ghost use Rattle.views.specs.Places.{samples_at, gaps_at, rows_places, Rowed};

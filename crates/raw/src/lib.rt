@@ -1,4 +1,6 @@
 // Document 01, "Layout": the samples of a raw slice, which is one byte a sample at depth 8 and packed at depth bits above that.
+#![tactic(auto)]
+
 ghost use Rattle.std.specs.Prelude.{◌≡◌, ◌+◌, ◌-◌, ◌*◌, ◌/◌, ◌%◌, ◌^◌, ◌<◌, ◌≤◌, length};
 ghost use Rattle.scope.specs.Bits.{window, packed_from};
 ghost use Rattle.raw.specs.Raw.{raw_from, RawIn, Unpacked};

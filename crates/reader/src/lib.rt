@@ -2,6 +2,8 @@
 // over covered ones; and one step of the coded loop over it ("takes every sample from that lookup"). The borrow checker covers no
 // function over a struct that holds a slice, so `over`, `word`, `past`, `position` and `next` are proved by hand. `next` has plain
 // parameters: whoever calls it is covered again. The loops at both widths (chain8, chain16) say by `Reached` where they ended.
+#![tactic(auto)]
+
 ghost use Rattle.std.specs.Prelude.{◌≡◌, ◌<◌, ◌^◌};
 ghost use Rattle.scope.specs.Lookup.{lookup_in};
 ghost use Rattle.reader.specs.Stepping.{behind, step_to, step_from};
@@ -10,21 +12,21 @@ use lookup::lookup;
 use scope::Found;
 
 // The payload, and the bit position that the next word begins at.
-#[derive(Drop)]
+#[derive(Clone, Copy)]
 pub struct Reader<'a> {
     pub payload: &'a [u8],
     pub at: usize,
 }
 
 // What one step meets: a word, with its symbol and the position at its end, or no word, and the reader stands still.
-#[derive(Drop)]
+#[derive(Clone, Copy)]
 pub enum Stepped {
     Past { symbol: usize, end: usize },
     Still,
 }
 
 // Where a reading stands: at the end of its last word, or where no word fits the next bits.
-#[derive(Drop)]
+#[derive(Clone, Copy)]
 pub enum Reached {
     End(usize),
     Stuck(usize),

@@ -15,6 +15,7 @@ none_append (r ∷ xs) ys h = ((h.0, (none_append xs ys h.1).0), (none_append xs
 -- of the rows of each slice, or of each plane
 pub none_each : (n : ℕ) (rows : ℕ → List Row) → NoneApplies (rows_of_each n rows) → (i : ℕ) → i < n → NoneApplies (rows i)
 unfolding rows_of_each
+none_each Prim.Native.Nat.zero rows h i l = elim l [ ]
 none_each (suc n) rows h i l = go (ℕ_discrete i n) both.1 (none_each n rows both.0 i)
   where
     both : NoneApplies (rows_of_each n rows) × NoneApplies (rows n)

@@ -4,6 +4,8 @@
 //
 // Each case is decoded into memory that crate cases lends, which holds something else than it must hold afterwards, and judged by
 // it. A line says which case came out wrong and in what; the last line counts.
+#![tactic(auto)]
+
 ghost use Rattle.std.specs.Prelude.{◌≡◌, ◌*◌, ◌≤◌, length};
 
 use cases::{Case, Shape, Told, Verdict};
@@ -249,7 +251,7 @@ fn replay_case(case: &[u8], c: Case, lengths: &mut [u8]) -> Verdict
 // ---- the list
 
 // How many bytes of the list a case took, and 1 where it is wrong.
-#[derive(Drop)]
+#[derive(Clone, Copy)]
 pub struct Taken {
     pub bytes: usize,
     pub wrong: usize,

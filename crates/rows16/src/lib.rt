@@ -1,5 +1,7 @@
 // The rows of a slice at a depth above 8, as rows8 has those of depth 8. Document 01, "Prediction, slice by slice". Sums wrap at
 // 16 bits and are then taken modulo 2^depth, which divides 2^16. Residues may be 2^depth or more; the samples made are below it.
+#![tactic(auto)]
+
 ghost use Rattle.std.specs.Prelude.{◌≡◌, ◌+◌, ◌-◌, ◌%◌, ◌^◌, ◌<◌, ◌≤◌, min, max, length};
 ghost use Rattle.scope.specs.Prediction.{gradient, t87_median};
 ghost use Rattle.memory.specs.Loop.{swept};

@@ -1,5 +1,7 @@
 // The rows of a slice at depth 8. Document 01, "Prediction, slice by slice". Sums wrap, which is modulo 2^8. A row's column 0 is
 // set first; the loop over the other columns has no test but its end, and carries left and top-left.
+#![tactic(auto)]
+
 ghost use Rattle.std.specs.Prelude.{◌≡◌, ◌+◌, ◌-◌, ◌<◌, ◌≤◌, min, max, length};
 ghost use Rattle.scope.specs.Prediction.{gradient, clamp_median};
 ghost use Rattle.memory.specs.Loop.{swept};

@@ -1,8 +1,9 @@
 // The types that every statement of this project speaks of. What they mean, and the whole of document 01, stands in
 // specs/: a file for each of its headings. This crate has no function.
+#![tactic(auto)]
 
 // Document 01, "What comes in": Gray has 1 plane, Rgb and Yuv have 3, Rgba and Yuva have 4.
-#[derive(Drop)]
+#[derive(Clone, Copy)]
 pub enum Family {
     Gray,
     Rgb,
@@ -12,14 +13,14 @@ pub enum Family {
 }
 
 // Document 01, "What comes in": one entry serves depth 8, one serves depths 10, 12 and 14.
-#[derive(Drop)]
+#[derive(Clone, Copy)]
 pub enum Entry {
     Eight,
     Deep,
 }
 
 // What the host read from the header: specs/Geometry.antt has the rules that each number must keep.
-#[derive(Drop)]
+#[derive(Clone, Copy)]
 pub struct Geometry {
     pub width: usize,
     pub height: usize,
@@ -34,7 +35,7 @@ pub struct Geometry {
 // One slice, as document 01's "Layout" places it: its number in wire order, the plane that it names and its place there, the plane's rows that the place
 // covers (the first one, and how many) and their width, where the slice starts and ends in the frame, whether it is raw, and its
 // predictor byte. specs/Layout.antt has what each is (`slice_at`).
-#[derive(Drop)]
+#[derive(Clone, Copy)]
 pub struct SliceAt {
     pub number: usize,
     pub plane: usize,
@@ -49,7 +50,7 @@ pub struct SliceAt {
 }
 
 // Where a refusal stands: at a slice, at a plane, or nowhere in particular.
-#[derive(Drop)]
+#[derive(Clone, Copy)]
 pub enum Place {
     Slice(usize),
     Plane(usize),
@@ -57,14 +58,14 @@ pub enum Place {
 }
 
 // What a function of the product answers. A refusal holds its number in document 01's table, and its place.
-#[derive(Drop)]
+#[derive(Clone, Copy)]
 pub enum Answer {
     Done,
     Refused(u32, Place),
 }
 
 // What the lookup finds at a bit position: a word's length and symbol, or no word.
-#[derive(Drop)]
+#[derive(Clone, Copy)]
 pub enum Found {
     Word { length: usize, symbol: usize },
     NoWord,

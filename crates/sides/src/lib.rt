@@ -1,5 +1,7 @@
 // Document 01, the first lines of "Layout": the sides of a plane, how many slices there are, and the rows of a place, of a geometry that
 // refusals 1 to 3 left. None of them can run over: sides are at most 16,384, planes at most 4.
+#![tactic(auto)]
+
 ghost use Rattle.std.specs.Prelude.{◌≡◌, ◌<◌, ◌≤◌};
 ghost use Rattle.scope.specs.Geometry.{slices_per_plane, slice_count, small, plane_width, plane_height, plane_slice_height, rows_at};
 ghost use Rattle.geometry.specs.Sound.{Sound};

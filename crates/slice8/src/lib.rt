@@ -1,6 +1,8 @@
 // Document 01, "Layout", "Words and lookup" and "Prediction, slice by slice": one slice, as its record says it stands in the frame, read
 // into its rows of the planes, raw or coded, and its samples rebuilt there, of 8 bits each. What it answers and gives is said over the
 // lookup of the lent table: no code lengths here. The other width has a twin of this crate.
+#![tactic(auto)]
+
 ghost use Rattle.std.specs.Prelude.{◌≡◌, ◌*◌, ◌^◌, length};
 ghost use Rattle.scope.specs.Geometry.{fields};
 ghost use Rattle.scope.specs.Bits.{raw_samples};

@@ -1,5 +1,7 @@
 // Document 01, "Planes lie one after another with no gaps": where rows stand in the plane buffer, as elements. The pitch of a plane is
 // its width, since there are no gaps.
+#![tactic(auto)]
+
 ghost use Rattle.std.specs.Prelude.{◌≡◌, ◌+◌, ◌*◌, ◌<◌, ◌≤◌};
 ghost use Rattle.scope.specs.Geometry.{plane_count, plane_height, plane_samples, order_of, plane_start};
 ghost use Rattle.scope.specs.Base.{sum_below};

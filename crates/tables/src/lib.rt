@@ -1,5 +1,7 @@
 // The codes of all planes of a frame, from one pass over each plane's lengths, and their tables, one after another in the
 // workspace. Document 01, refusals 9 and 10, and "Words and lookup".
+#![tactic(auto)]
+
 ghost use Rattle.std.specs.Prelude.{◌≡◌, ◌*◌, ◌^◌, ◌<◌, ◌≤◌, length};
 ghost use Rattle.scope.specs.Geometry.{plane_count, lengths_of};
 ghost use Rattle.scope.specs.Lookup.{table_of};
@@ -18,7 +20,7 @@ use words::{Weighed, weigh};
 
 // What 9 and 10 say of the planes' lengths; where each plane's table starts and ends in the workspace; its longest and its shortest
 // length; and all planes' needs together. 0 for the planes that a family lacks, and throughout where a plane is refused.
-#[derive(Drop)]
+#[derive(Clone, Copy)]
 pub struct Codes {
     pub answer: Answer,
     pub from: [usize; 4],

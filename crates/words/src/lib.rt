@@ -1,6 +1,8 @@
 // Document 01, "Words and lookup": what a plane's code lengths alone say. One pass over them counts how many symbols have each
 // length; the counts then give refusals 9 and 10, the longest and the shortest length, where the words of each length start, and
 // the workspace words that a table needs.
+#![tactic(auto)]
+
 ghost use Rattle.std.specs.Prelude.{◌≡◌, ◌≤◌, false, length};
 ghost use Rattle.scope.specs.Words.{longest, shares, too_long, need_from};
 ghost use Rattle.words.specs.Tally.{counts_of, highest, lowest};
@@ -10,7 +12,7 @@ use scope::Place;
 
 // What the lengths of one plane get: its longest and its shortest length, 0 where it has no word, and the words that its table
 // needs; or a refusal with its number and place.
-#[derive(Drop)]
+#[derive(Clone, Copy)]
 pub enum Weighed {
     Code {
         longest: usize,
@@ -21,14 +23,14 @@ pub enum Weighed {
 }
 
 // Whether some length is above 18; where none is, how many symbols have each length.
-#[derive(Drop)]
+#[derive(Clone, Copy)]
 pub(crate) struct Counts {
     long: bool,
     count: [u32; 19],
 }
 
 // Whether all lengths' words have room, and the first word of each length.
-#[derive(Drop)]
+#[derive(Clone, Copy)]
 pub(crate) struct Starts {
     fits: bool,
     at: [u32; 19],

@@ -1,6 +1,6 @@
 -- The shortest length of a plane (document 01, "b is .. the plane's shortest word"): some symbol has it and none has a shorter one; it
 -- is at most the longest, and there is none exactly where there is no longest. Assumes nothing.
-use mathlib.Core.Path.{◌≡◌, refl, ◌∙◌}
+use mathlib.Core.Path.{◌≡◌, refl, sym, subst, ◌∙◌}
 use mathlib.Core.Logic.{◌⊎◌, inl, inr, ⊎_elim}
 use Prim.Native.Nat.{ℕ, zero, suc, ◌≤◌, ◌<◌, max}
 use native.Mathlib.Decide.{dec_lt}
@@ -97,6 +97,11 @@ one_of_both (suc a) (suc b) h = elim (dec_lt (suc b) (suc a)) [
   | no q ↦ inl (omega (arith, q))
 ]
 
+-- what stands in a list stands in a longer one
+counts_more : (l x : ℕ) (ls : List ℕ) → 0 < count x ls → 0 < count x (l ∷ ls)
+unfolding base.count
+counts_more l x ls h = omega (arith, h)
+
 -- some symbol has it
 pub shortest_count : (ls : List ℕ) → 0 < shortest ls → 0 < count (shortest ls) ls
 unfolding words.shortest base.count
@@ -104,7 +109,9 @@ shortest_count [] h = absurd (omega arith)
 shortest_count (l ∷ ls) h =
     ⊎_elim
     (λ (e : shorter l (shortest ls) ≡ l). rw e (omega (arith, one_same l)))
-    (λ (e : (shorter l (shortest ls) ≡ shortest ls) × (0 < shortest ls)). rw e.0 (omega (arith, shortest_count ls e.1)))
+    (λ (e : (shorter l (shortest ls) ≡ shortest ls) × (0 < shortest ls)).
+        let same : shortest (l ∷ ls) ≡ shortest ls = e.0 in
+        subst (λ (x : ℕ). 0 < count x (l ∷ ls)) (sym same) (counts_more l (shortest ls) ls (shortest_count ls e.1)))
     (one_of_both l (shortest ls) h)
 
 -- and none has a word longer than the longest

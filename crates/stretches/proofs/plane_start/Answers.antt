@@ -1,0 +1,10 @@
+-- `stretches::plane_start` meets its contract: the sum over the planes before its place (document 01, "Layout"). Assumes nothing.
+use Rattle.geometry.proofs.Figures.{sums}
+use Rattle.stretches.proofs.plane_start.Goals as goal
+
+pub samples_below-requires-clause-n_bound : goal.samples_below-requires-clause-n_bound
+samples_below-requires-clause-n_bound c = search sums
+
+pub returns : goal.returns
+returns c = (search sums, search sums)
+

@@ -37,6 +37,11 @@ module _ (frame : List ℕ) (g : Geometry) where
   unfolding lay.named_before
   named_other p s ne = rw (ne_eqb (plane_index frame g s) p (λ z. ne (sym z))) (omega arith)
 
+  -- and one more is still at most K, where there was room
+  most_here : (p s : ℕ) → p ≡ plane_index frame g s → named_before frame g (plane_index frame g s) s < slices_per_plane g
+      → named_before frame g p (suc s) ≤ slices_per_plane g
+  most_here p s e h = rw e (omega (arith, named_here s))
+
   module _ (m : ℕ) (all : Done ≡ in_order m (index_check frame g)) where
     named_most : (s : ℕ) → s ≤ m → (p : ℕ) → named_before frame g p s ≤ slices_per_plane g
     unfolding lay.named_before lay.place_in_plane
@@ -44,7 +49,7 @@ module _ (frame : List ℕ) (g : Geometry) where
     named_most (suc s) l p = go (ℕ_discrete p (plane_index frame g s)) (named_most s (omega arith) p)
       where
         go : Dec (p ≡ plane_index frame g s) → named_before frame g p s ≤ slices_per_plane g → named_before frame g p (suc s) ≤ slices_per_plane g
-        go (yes e) h = rw e (omega (arith, named_here s, index_room frame g s (each_passed _ m s all l)))
+        go (yes e) h = most_here p s e (index_room frame g s (each_passed _ m s all l))
         go (no e) h = omega (arith, named_other p s e)
 
     named_sum : (s : ℕ) → s ≤ m → sum_below (plane_count g) (λ p. named_before frame g p s) ≡ s

@@ -1,0 +1,6 @@
+use Rattle.layout.proofs.Readers.{count_is}
+use Rattle.layout.proofs.count_byte.Goals as goal
+
+pub returns : goal.returns
+returns c = search count_is
+

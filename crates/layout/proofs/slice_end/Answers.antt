@@ -1,0 +1,9 @@
+use Rattle.layout.proofs.Readers.{ends_next, ends_last}
+use Rattle.layout.proofs.slice_end.Goals as goal
+
+pub returns-then-s-t : goal.returns-then-s-t
+returns-then-s-t c = search ends_next
+
+pub returns : goal.returns
+returns c = search ends_last
+

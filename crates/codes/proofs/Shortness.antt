@@ -110,8 +110,8 @@ shortest_count (l ∷ ls) h =
     ⊎_elim
     (λ (e : shorter l (shortest ls) ≡ l). rw e (omega (arith, one_same l)))
     (λ (e : (shorter l (shortest ls) ≡ shortest ls) × (0 < shortest ls)).
-        let same : shortest (l ∷ ls) ≡ shortest ls = e.0 in
-        subst (λ (x : ℕ). 0 < count x (l ∷ ls)) (sym same) (counts_more l (shortest ls) ls (shortest_count ls e.1)))
+    let same : shortest (l ∷ ls) ≡ shortest ls = e.0 in
+    subst (λ (x : ℕ). 0 < count x (l ∷ ls)) (sym same) (counts_more l (shortest ls) ls (shortest_count ls e.1)))
     (one_of_both l (shortest ls) h)
 
 -- and none has a word longer than the longest

@@ -8,4 +8,3 @@ returns-then-i-payload c = search windows
 
 pub returns : goal.returns
 returns c = search windows
-

@@ -4,4 +4,3 @@ use Rattle.bits.proofs.peek.Goals as goal
 
 pub returns : goal.returns
 returns c = search windows
-

@@ -1,5 +1,5 @@
 use mathlib.Core.Path.{◌≡◌}
-use Prim.Native.Nat.{◌≤◌, ◌<◌, ◌-◌, ◌+◌}
+use Prim.Native.Nat.{◌≤◌, ◌-◌}
 use lib.ListN.{length}
 use Rattle.builder.specs.Slots.{StretchWritten}
 use Rattle.builder.proofs.fill.Given as goal
@@ -9,4 +9,3 @@ invariant-loop-k l = (length l.ws ≡ length l.initial.ws) × (l.k ≤ l.n) × S
 
 abbrev pub decreases-loop-k : goal.decreases-loop-k
 decreases-loop-k l = l.n - l.k
-

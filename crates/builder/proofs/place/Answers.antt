@@ -1,7 +1,5 @@
 -- `place` writes every symbol's word, in one pass over the lengths (document 01, "Words and lookup").
 use Rattle.builder.proofs.Placing.{placed_start, length_below, symbol_asked, placed_step}
-use mathlib.Core.Path.{◌≡◌}
-use Prim.Native.Nat.{◌-◌}
 use borrow.Author.Rules.{rules}
 use Rattle.builder.proofs.place.Goals as goal
 
@@ -19,4 +17,3 @@ bounds-next-l-in-loop-s c = search length_below
 
 pub loop-s-preserved : goal.loop-s-preserved
 loop-s-preserved c = (search placed_step, search rules)
-

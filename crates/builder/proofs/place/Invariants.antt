@@ -9,4 +9,3 @@ invariant-loop-s l = WordsPlaced l.lengths l.m l.ws l.next l.s Ã— (length l.ws â
 
 abbrev pub decreases-loop-s : goal.decreases-loop-s
 decreases-loop-s l = length l.lengths - l.s
-

@@ -7,4 +7,3 @@ fill-requires c = search marks_room
 
 pub returns : goal.returns
 returns c = search written
-

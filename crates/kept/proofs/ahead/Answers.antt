@@ -4,4 +4,3 @@ use Rattle.kept.proofs.ahead.Goals as goal
 
 pub returns : goal.returns
 returns c = search beginning
-

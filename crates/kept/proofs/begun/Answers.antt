@@ -7,4 +7,3 @@ overflow_add-result c = search beginning
 
 pub returns : goal.returns
 returns c = search beginning
-

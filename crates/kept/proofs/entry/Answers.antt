@@ -19,4 +19,3 @@ returns-then-v-m c = search entering
 
 pub returns : goal.returns
 returns c = search entering
-

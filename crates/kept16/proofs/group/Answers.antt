@@ -1,5 +1,4 @@
 -- `kept16::group` meets its contract: words taken out of one window (document 01, "Words and lookup"). Assumes nothing.
-use Prim.Native.Nat.{◌+◌, ◌-◌, ◌^◌}
 use Rattle.kept.proofs.Groups.{taking}
 use Rattle.kept16.proofs.group.Goals as goal
 
@@ -11,4 +10,3 @@ overflow_cast-out c = search taking
 
 pub loop-i-preserved : goal.loop-i-preserved
 loop-i-preserved c = search taking
-

@@ -13,4 +13,3 @@ returns-clause-read c = search ending
 
 pub returns-clause-next : goal.returns-clause-next
 returns-clause-next c = search ending
-

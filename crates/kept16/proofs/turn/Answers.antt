@@ -4,4 +4,3 @@ use Rattle.kept16.proofs.turn.Goals as goal
 
 pub returns-then-payload-q-clause-read : goal.returns-then-payload-q-clause-read
 returns-then-payload-q-clause-read c = search turning
-

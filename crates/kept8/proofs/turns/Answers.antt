@@ -1,5 +1,4 @@
 -- `kept8::turns` meets its contract: turn after turn, each from where the last one ended (document 01, "Words and lookup"). Assumes nothing.
-use Prim.Native.Nat.{◌-◌, ◌^◌}
 use borrow.Author.Rules.{rules}
 use Rattle.kept.proofs.Groups.{going, going_position, going_next}
 use Rattle.kept8.proofs.turns.Goals as goal
@@ -21,4 +20,3 @@ loop-k-preserved c = search going
 
 pub overflow_add-end : goal.overflow_add-end
 overflow_add-end c = search (going_position, rules)
-

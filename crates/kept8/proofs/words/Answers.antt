@@ -10,4 +10,3 @@ returns-then-m-gt18 c = search beginnings
 
 pub returns-then-payload-at : goal.returns-then-payload-at
 returns-then-payload-at c = search beginnings
-

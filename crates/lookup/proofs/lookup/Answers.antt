@@ -16,4 +16,3 @@ returns-then-e-eq255 c = search looking
 
 pub returns : goal.returns
 returns c = search looking
-

@@ -7,4 +7,3 @@ returns-then-e-eq0 c = search looking
 
 pub returns : goal.returns
 returns c = search looking
-

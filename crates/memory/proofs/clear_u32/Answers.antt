@@ -1,5 +1,4 @@
 -- `memory::clear_u32` meets its contract: the loop rebuilds the slice in place, each element as 0. Assumes nothing.
-use Rattle.std.proofs.Common.{◌-◌}
 use Rattle.memory.proofs.Clearing.{clearing}
 use Rattle.memory.proofs.clear_u32.Goals as goal
 
@@ -11,4 +10,3 @@ loop-w-preserved c = search clearing
 
 pub returns : goal.returns
 returns c = search clearing
-

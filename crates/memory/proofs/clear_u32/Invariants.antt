@@ -8,4 +8,3 @@ invariant-loop-w l = At cleared l.initial.words l.words l.w
 
 abbrev pub decreases-loop-w : goal.decreases-loop-w
 decreases-loop-w l = length l.initial.words - l.w
-

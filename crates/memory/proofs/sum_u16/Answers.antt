@@ -4,4 +4,3 @@ use Rattle.memory.proofs.sum_u16.Goals as goal
 
 pub returns : goal.returns
 returns c = search powers
-

@@ -1,5 +1,4 @@
 -- `raw::each` meets its contract: one window a sample (document 01, "Layout"). Assumes nothing.
-use Prim.Native.Nat.{◌-◌}
 use Rattle.raw.proofs.Unpacking.{eaching}
 use Rattle.raw.proofs.each.Goals as goal
 
@@ -8,4 +7,3 @@ loop-i-init c = search eaching
 
 pub loop-i-preserved : goal.loop-i-preserved
 loop-i-preserved c = search eaching
-

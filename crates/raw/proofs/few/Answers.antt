@@ -1,5 +1,4 @@
 -- `raw::few` meets its contract: samples out of eight bytes (document 01, "Layout"). Assumes nothing.
-use Prim.Native.Nat.{◌-◌}
 use Rattle.raw.proofs.Unpacking.{cuts}
 use Rattle.raw.proofs.few.Goals as goal
 
@@ -8,4 +7,3 @@ loop-i-init c = search cuts
 
 pub loop-i-preserved : goal.loop-i-preserved
 loop-i-preserved c = search cuts
-

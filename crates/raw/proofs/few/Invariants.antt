@@ -9,4 +9,3 @@ invariant-loop-i l =
 
 abbrev pub decreases-loop-i : goal.decreases-loop-i
 decreases-loop-i l = length l.initial.out - l.i
-

@@ -1,5 +1,4 @@
 -- `raw::groups` meets its contract: a few samples at a time (document 01, "Layout"). Assumes nothing.
-use Prim.Native.Nat.{◌-◌}
 use Rattle.raw.proofs.Unpacking.{groupings}
 use Rattle.raw.proofs.groups.Goals as goal
 
@@ -11,4 +10,3 @@ loop-out-init c = search groupings
 
 pub loop-out-preserved : goal.loop-out-preserved
 loop-out-preserved c = search groupings
-

@@ -9,4 +9,3 @@ invariant-loop-out l =
 
 abbrev pub decreases-loop-out : goal.decreases-loop-out
 decreases-loop-out l = length l.initial.out - l.k
-

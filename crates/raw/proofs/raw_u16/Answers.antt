@@ -5,4 +5,3 @@ use Rattle.raw.proofs.raw_u16.Goals as goal
 
 pub returns : goal.returns
 returns c = search raws
-

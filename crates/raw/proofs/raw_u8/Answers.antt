@@ -1,6 +1,4 @@
 -- `raw::raw_u8` meets its contract: the loop fills the buffer with the bytes as they stand (document 01, "Layout"). Assumes nothing.
-use mathlib.Core.Path.{◌≡◌}
-use Prim.Native.Nat.{◌+◌, ◌-◌, ◌≤◌}
 use Rattle.raw.proofs.Fills.{fills}
 use Rattle.raw.proofs.raw_u8.Goals as goal
 
@@ -9,4 +7,3 @@ loop-i-init c = search fills
 
 pub loop-i-preserved : goal.loop-i-preserved
 loop-i-preserved c = search fills
-

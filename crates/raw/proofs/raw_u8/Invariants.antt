@@ -10,4 +10,3 @@ invariant-loop-i l = Fills (raw_from l.depth l.payload l.first (length l.initial
 
 abbrev pub decreases-loop-i : goal.decreases-loop-i
 decreases-loop-i l = length l.initial.out - l.i
-

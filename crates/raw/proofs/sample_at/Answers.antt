@@ -4,4 +4,3 @@ use Rattle.raw.proofs.sample_at.Goals as goal
 
 pub overflow_cast-result : goal.overflow_cast-result
 overflow_cast-result c = search windows
-

@@ -4,4 +4,3 @@ use Rattle.raw.proofs.unpack_from.Goals as goal
 
 pub returns : goal.returns
 returns c = search rests
-

@@ -10,4 +10,3 @@ returns-in-NoWord c = search stepping
 
 pub returns-in-Word : goal.returns-in-Word
 returns-in-Word c = search stepping
-

@@ -13,4 +13,3 @@ loop-l-preserved c = search walks_step
 
 pub returns : goal.returns
 returns c = search walks_end
-

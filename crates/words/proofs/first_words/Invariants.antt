@@ -6,4 +6,3 @@ invariant-loop-l l = Walks l.count l.m l.at l.a l.l
 
 abbrev pub decreases-loop-l : goal.decreases-loop-l
 decreases-loop-l l = l.l
-

@@ -4,4 +4,3 @@ use Rattle.words.proofs.firsts.Goals as goal
 
 pub returns : goal.returns
 returns c = search started
-

@@ -11,4 +11,3 @@ loop-l-preserved c = search down_step
 
 pub returns : goal.returns
 returns c = (search down_end, search rules)
-

@@ -6,4 +6,3 @@ invariant-loop-l l = Down l.count l.l
 
 abbrev pub decreases-loop-l : goal.decreases-loop-l
 decreases-loop-l l = l.l
-

@@ -1,5 +1,4 @@
 -- `shortest_in` gives the shortest length from the counts (document 01, "Words and lookup").
-use Rattle.std.proofs.Common.{◌-◌}
 use Rattle.words.proofs.Ends.{up_found, up_step, up_end}
 use Rattle.words.proofs.shortest_in.Goals as goal
 
@@ -11,4 +10,3 @@ loop-l-preserved c = search up_step
 
 pub returns : goal.returns
 returns c = search up_end
-

@@ -7,4 +7,3 @@ invariant-loop-l l = Up l.count l.l
 
 abbrev pub decreases-loop-l : goal.decreases-loop-l
 decreases-loop-l l = 19 - l.l
-

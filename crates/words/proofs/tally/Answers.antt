@@ -1,5 +1,4 @@
 -- `tally` counts the lengths in one pass (document 01, "Words and lookup").
-use Rattle.std.proofs.Common.{◌-◌}
 use Rattle.words.proofs.Tallying.{counted_start, counted_fits, counted_step, counted_long, counted_short, counted_end}
 use Rattle.words.proofs.tally.Goals as goal
 
@@ -20,4 +19,3 @@ returns-clause-long c = search counted_short
 
 pub returns-clause-counts : goal.returns-clause-counts
 returns-clause-counts c = search counted_end
-

@@ -7,4 +7,3 @@ invariant-loop-i l = Counted l.lengths l.count l.i
 
 abbrev pub decreases-loop-i : goal.decreases-loop-i
 decreases-loop-i l = length l.lengths - l.i
-

@@ -14,4 +14,3 @@ need_from-requires c = (search rules, search twelve_fits)
 
 pub returns : goal.returns
 returns c = search weighed_code
-

@@ -1,0 +1,15 @@
+-- `slice8::raw_rows` meets its contract: row after row of a raw slice (document 01, "Layout"). Assumes nothing.
+use mathlib.Core.Path.{◌≡◌}
+use Prim.Native.Nat.{◌-◌}
+use Rattle.slice.proofs.Raw.{raw_rows}
+use Rattle.slice8.proofs.raw_rows.Goals as goal
+
+pub loop-r-init : goal.loop-r-init
+loop-r-init c = search raw_rows
+
+pub loop-r-preserved : goal.loop-r-preserved
+loop-r-preserved c = search raw_rows
+
+pub returns-clause-samples : goal.returns-clause-samples
+returns-clause-samples c = search raw_rows
+

@@ -41,6 +41,7 @@ planes_long f size (suc n) h =
 planes_at : (f : ℕ → Samples) (size : ℕ → ℕ) (n : ℕ) → ((b : ℕ) → b < n → length (f b) ≡ size b) → (b i : ℕ) → b < n → i < size b
     → get_or (planes_up_to f n) (sum_below b size + i) 0 ≡ get_or (f b) i 0
 unfolding frm.planes_up_to
+planes_at f size zero h b i l k = elim l [ ]
 planes_at f size (suc n) h b i l k = go (ℕ_discrete b n) (planes_at f size n (λ c m. h c (omega arith)) b i)
   where
     long : length (planes_up_to f n) ≡ sum_below n size

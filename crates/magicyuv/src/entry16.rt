@@ -7,8 +7,7 @@ use crate::Reply;
 use scope::{Answer, Geometry, Place};
 
 // Document 01's entry for depths 10, 12 and 14.
-#[unsafe(no_mangle)]
-pub extern "C" fn magicyuv_decode16(
+pub fn magicyuv_decode16(
     frame: &[u8],
     lengths: &[u8],
     planes: &mut [u16],

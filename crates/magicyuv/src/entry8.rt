@@ -7,8 +7,7 @@ use crate::Reply;
 use scope::{Answer, Geometry, Place};
 
 // Document 01's entry for depth 8.
-#[unsafe(no_mangle)]
-pub extern "C" fn magicyuv_decode8(
+pub fn magicyuv_decode8(
     frame: &[u8],
     lengths: &[u8],
     planes: &mut [u8],

@@ -1,5 +1,5 @@
-// The host's boundary: the product's functions as extern "C", on numbers and slices. An enum cannot cross it, so a Reply of three
-// numbers stands in for the answer; each function is proved to reply just the answer's number and place.
+// The host's boundary: the product's functions on numbers and slices. An enum cannot cross it, so a Reply of three numbers stands in for
+// the answer; each function is proved to reply just the answer's number and place. Crate magicyuv_c exports them as extern "C".
 // entry8.rt has the frame entry for depth 8, entry16.rt the one for depths 10, 12 and 14.
 #![tactic(auto)]
 
@@ -73,8 +73,7 @@ fn family(n: u32) -> Family
 }
 
 // A table built by itself.
-#[unsafe(no_mangle)]
-pub extern "C" fn magicyuv_build(lengths: &[u8], workspace: &mut [u32]) -> Reply
+pub fn magicyuv_build(lengths: &[u8], workspace: &mut [u32]) -> Reply
     ensures { BuiltFor lengths.now workspace.old result workspace.new }
 {
     let built = alone::build(lengths, workspace);
@@ -82,8 +81,7 @@ pub extern "C" fn magicyuv_build(lengths: &[u8], workspace: &mut [u32]) -> Reply
 }
 
 // A reading by itself.
-#[unsafe(no_mangle)]
-pub extern "C" fn magicyuv_read(
+pub fn magicyuv_read(
     lengths: &[u8],
     payload: &[u8],
     workspace: &mut [u32],

@@ -15,6 +15,7 @@ use decode8::decode8;
 use decode16::decode16;
 use frames::SMALL;
 use scope::{Answer, Family, Geometry};
+use std::io;
 
 // A geometry with planes of one size and without fields.
 fn plain(
@@ -56,22 +57,22 @@ fn set_lengths(code: &[u8], lengths: &mut [u8]) {
 // ---- the built-in frames
 
 // Slices that do not come plane by plane, raw and coded, with every predictor; B' and R' become B and R.
-fn rgb() {
+fn rgb(rt: &impl Print) -> io::Result<()> {
     let g = plain(Family::Rgb, 4, 4, 2, 8);
     let mut lengths = [0u8; 768];
     let mut planes = [170u8; 48];
     let mut workspace = [9u32; 13];
     set_lengths(&coded::RGB, &mut lengths);
     let a = decode8(&frames::RGB, g, &lengths, &mut planes, &mut workspace);
-    put::answer(b"planes", a);
-    put::samples_u8(b"\n  G:", &planes[0..16]);
-    put::samples_u8(b"\n  B:", &planes[16..32]);
-    put::samples_u8(b"\n  R:", &planes[32..48]);
-    put::workspace(b"\n  workspace", &workspace);
+    put::answer(rt, "planes", a)?;
+    put::samples_u8(rt, "\n  G:", &planes[0..16])?;
+    put::samples_u8(rt, "\n  B:", &planes[16..32])?;
+    put::samples_u8(rt, "\n  R:", &planes[32..48])?;
+    put::workspace(rt, "\n  workspace", &workspace)
 }
 
 // Two fields, planes of two sizes, and a last place that is cut.
-fn yuv() {
+fn yuv(rt: &impl Print) -> io::Result<()> {
     let g = Geometry {
         width: 4,
         height: 6,
@@ -87,186 +88,245 @@ fn yuv() {
     let mut workspace = [9u32; 44];
     set_lengths(&coded::YUV, &mut lengths);
     let a = decode8(&frames::YUV, g, &lengths, &mut planes, &mut workspace);
-    put::answer(b"planes", a);
-    put::samples_u8(b"\n  Y:", &planes[0..24]);
-    put::samples_u8(b"\n  U:", &planes[24..30]);
-    put::samples_u8(b"\n  V:", &planes[30..36]);
-    put::workspace(b"\n  workspace", &workspace);
+    put::answer(rt, "planes", a)?;
+    put::samples_u8(rt, "\n  Y:", &planes[0..24])?;
+    put::samples_u8(rt, "\n  U:", &planes[24..30])?;
+    put::samples_u8(rt, "\n  V:", &planes[30..36])?;
+    put::workspace(rt, "\n  workspace", &workspace)
 }
 
 // The entry for 10, 12 and 14 bits, with words of up to 14 bits.
-fn deep() {
+fn deep(rt: &impl Print) -> io::Result<()> {
     let g = plain(Family::Gray, 4, 3, 3, 10);
     let mut lengths = [0u8; 1024];
     let mut planes = [170u16; 12];
     let mut workspace = [9u32; 4100];
     set_lengths(&coded::DEEP, &mut lengths);
     let a = decode16(&frames::DEEP, g, &lengths, &mut planes, &mut workspace);
-    put::answer(b"planes", a);
-    put::samples_u16(b"\n  plane 0:", &planes);
-    put::workspace(b"\n  workspace", &workspace);
+    put::answer(rt, "planes", a)?;
+    put::samples_u16(rt, "\n  plane 0:", &planes)?;
+    put::workspace(rt, "\n  workspace", &workspace)
 }
 
 // A frame without words, of at most 3 planes and 3 samples.
 fn raw(
+    rt: &impl Print,
     frame: &[u8],
     g: Geometry,
     planes: &mut [u8],
     lengths: usize,
-    samples_title: &[u8],
-    words_title: &[u8],
-)
+    samples_title: &str,
+    words_title: &str,
+) -> io::Result<()>
     requires { lengths ≤ 768 }
 {
     let mut workspace = [9u32; 4];
     let a = decode8(frame, g, &coded::NONE[0..lengths], planes, &mut workspace);
-    put::answer(b"planes", a);
-    put::samples_u8(samples_title, planes);
-    put::workspace(words_title, &workspace);
+    put::answer(rt, "planes", a)?;
+    put::samples_u8(rt, samples_title, planes)?;
+    put::workspace(rt, words_title, &workspace)
 }
 
 // Document 01's frame, or a part or a spoiled form of it.
-fn gray(title: &[u8], frame: &[u8], samples_title: &[u8], words_title: &[u8]) {
+fn gray(
+    rt: &impl Print,
+    title: &str,
+    frame: &[u8],
+    samples_title: &str,
+    words_title: &str,
+) -> io::Result<()> {
     let mut planes = [170u8; 2];
     let g = plain(Family::Gray, 2, 1, 1, 8);
-    io::write_all(1, title);
-    raw(frame, g, &mut planes, 256, samples_title, words_title);
+    rt.print(title)?;
+    raw(rt, frame, g, &mut planes, 256, samples_title, words_title)
 }
 
-fn built_in() {
+fn built_in(rt: &impl Print) -> io::Result<()> {
     gray(
-        b"Gray 2x1, 8 bits, the frame of 46 bytes: ",
+        rt,
+        "Gray 2x1, 8 bits, the frame of 46 bytes: ",
         &SMALL,
-        b"\n  plane 0:",
-        b"\n  workspace",
-    );
+        "\n  plane 0:",
+        "\n  workspace",
+    )?;
     gray(
-        b"the same, cut to 45 bytes: ",
+        rt,
+        "the same, cut to 45 bytes: ",
         &SMALL[0..45],
-        b"\n  plane 0:",
-        b"\n  workspace",
-    );
-    io::write_all(1, b"Rgb 4x4, 8 bits, slices of planes 1 0 2 2 1 0: ");
-    rgb();
-    io::write_all(
-        1,
-        b"Yuv 4:2:0 4x6, 8 bits, interlaced, slices of planes 0 2 1 1 0 2: ",
-    );
-    yuv();
-    io::write_all(1, b"Gray 4x3, 10 bits, words of 1 to 14 bits: ");
-    deep();
+        "\n  plane 0:",
+        "\n  workspace",
+    )?;
+    rt.print("Rgb 4x4, 8 bits, slices of planes 1 0 2 2 1 0: ")?;
+    rgb(rt)?;
+    rt.print("Yuv 4:2:0 4x6, 8 bits, interlaced, slices of planes 0 2 1 1 0 2: ")?;
+    yuv(rt)?;
+    rt.print("Gray 4x3, 10 bits, words of 1 to 14 bits: ")?;
+    deep(rt)
 }
 
 // ---- the known answers
 
 // A table built by itself in the first words of a workspace. Where it is refused all of the workspace is looked at, else what lies
 // past the need.
-fn build_in(lengths: &[u8], lent: usize, need: usize, workspace: &mut [u32])
+fn build_in(
+    rt: &impl Print,
+    lengths: &[u8],
+    lent: usize,
+    need: usize,
+    workspace: &mut [u32],
+) -> io::Result<()>
     requires { (lent ≤ length workspace.old) × (need ≤ length workspace.old) }
 {
     let a = alone::build(lengths, &mut workspace[0..lent]);
-    put::answer(b"built", a);
+    put::answer(rt, "built", a)?;
     match a {
-        Answer::Refused(n, p) => put::workspace(b"; workspace", workspace),
-        Answer::Done => put::workspace(b"; past the need", &workspace[need..]),
+        Answer::Refused(n, p) => put::workspace(rt, "; workspace", workspace),
+        Answer::Done => put::workspace(rt, "; past the need", &workspace[need..]),
     }
 }
 
-fn build(title: &[u8], lengths: &[u8], lent: usize, need: usize)
+fn build(rt: &impl Print, title: &str, lengths: &[u8], lent: usize, need: usize) -> io::Result<()>
     requires { (lent ≤ 4100) × (need ≤ 4100) }
 {
     let mut workspace = [9u32; 4100];
-    io::write_all(1, title);
-    build_in(lengths, lent, need, &mut workspace);
+    rt.print(title)?;
+    build_in(rt, lengths, lent, need, &mut workspace)
 }
 
 // Samples read by themselves, as many as are lent.
-fn read_in(lengths: &[u8], payload: &[u8], workspace: &mut [u32], samples: &mut [u16]) {
-    put::answer(b"read", alone::read(lengths, payload, workspace, samples));
-    put::samples_u16(b"; samples", samples);
-    put::workspace(b"; workspace", workspace);
+fn read_in(
+    rt: &impl Print,
+    lengths: &[u8],
+    payload: &[u8],
+    workspace: &mut [u32],
+    samples: &mut [u16],
+) -> io::Result<()> {
+    let a = alone::read(lengths, payload, workspace, samples);
+    put::answer(rt, "read", a)?;
+    put::samples_u16(rt, "; samples", samples)?;
+    put::workspace(rt, "; workspace", workspace)
 }
 
-fn read(title: &[u8], lengths: &[u8], payload: &[u8], n: usize)
+fn read(rt: &impl Print, title: &str, lengths: &[u8], payload: &[u8], n: usize) -> io::Result<()>
     requires { n ≤ 6 }
 {
     let mut samples = [170u16; 6];
     let mut workspace = [9u32; 4100];
-    io::write_all(1, title);
-    read_in(lengths, payload, &mut workspace, &mut samples[0..n]);
+    rt.print(title)?;
+    read_in(rt, lengths, payload, &mut workspace, &mut samples[0..n])
 }
 
 // Document 01's frame with one byte changed.
-fn spoiled(title: &[u8], at: usize, byte: u8)
+fn spoiled(rt: &impl Print, title: &str, at: usize, byte: u8) -> io::Result<()>
     requires { at < 46 }
 {
     let mut frame = SMALL;
     frame[at] = byte;
-    gray(title, &frame, b"; samples", b"; workspace");
+    gray(rt, title, &frame, "; samples", "; workspace")
 }
 
-fn dot(title: &[u8], frame: &[u8]) {
+fn dot(rt: &impl Print, title: &str, frame: &[u8]) -> io::Result<()> {
     let mut planes = [170u8; 3];
     let g = plain(Family::Rgb, 1, 1, 1, 8);
-    io::write_all(1, title);
-    raw(frame, g, &mut planes, 768, b"; samples", b"; workspace");
+    rt.print(title)?;
+    raw(rt, frame, g, &mut planes, 768, "; samples", "; workspace")
 }
 
 // Needs: one word fewer is refused.
-fn needs() {
+fn needs(rt: &impl Print) -> io::Result<()> {
     build(
-        b"lengths all zero, 0 words lent: ",
+        rt,
+        "lengths all zero, 0 words lent: ",
         &coded::NONE[0..256],
         0,
         1,
-    );
+    )?;
     build(
-        b"lengths all zero, 1 word lent: ",
+        rt,
+        "lengths all zero, 1 word lent: ",
         &coded::NONE[0..256],
         1,
         1,
-    );
-    build(b"lengths 13 1, 4097 words lent: ", b"\x0d\x01", 4097, 4098);
-    build(b"lengths 13 1, 4098 words lent: ", b"\x0d\x01", 4098, 4098);
-    build(b"lengths 13 1, 4100 words lent: ", b"\x0d\x01", 4100, 4098);
+    )?;
+    build(
+        rt,
+        "lengths 13 1, 4097 words lent: ",
+        b"\x0d\x01",
+        4097,
+        4098,
+    )?;
+    build(
+        rt,
+        "lengths 13 1, 4098 words lent: ",
+        b"\x0d\x01",
+        4098,
+        4098,
+    )?;
+    build(
+        rt,
+        "lengths 13 1, 4100 words lent: ",
+        b"\x0d\x01",
+        4100,
+        4098,
+    )
 }
 
 // Words: under 13 1 they are thirteen zeros and 1, so that twelve zeros and a one begin none; under 1 2 2 the sixth sample comes from
 // past the end.
-fn words() {
-    read(b"lengths 13 1, bytes 00 04: ", b"\x0d\x01", b"\x00\x04", 2);
-    read(b"lengths 13 1, bytes 80 02: ", b"\x0d\x01", b"\x80\x02", 3);
-    read(b"lengths 13 1, bytes 00 08: ", b"\x0d\x01", b"\x00\x08", 1);
-    read(b"lengths 1 2 2, byte 8C: ", b"\x01\x02\x02", b"\x8c", 4);
-    read(b"lengths 1 2 2, byte 8C: ", b"\x01\x02\x02", b"\x8c", 6);
+fn words(rt: &impl Print) -> io::Result<()> {
+    read(
+        rt,
+        "lengths 13 1, bytes 00 04: ",
+        b"\x0d\x01",
+        b"\x00\x04",
+        2,
+    )?;
+    read(
+        rt,
+        "lengths 13 1, bytes 80 02: ",
+        b"\x0d\x01",
+        b"\x80\x02",
+        3,
+    )?;
+    read(
+        rt,
+        "lengths 13 1, bytes 00 08: ",
+        b"\x0d\x01",
+        b"\x00\x08",
+        1,
+    )?;
+    read(rt, "lengths 1 2 2, byte 8C: ", b"\x01\x02\x02", b"\x8c", 4)?;
+    read(rt, "lengths 1 2 2, byte 8C: ", b"\x01\x02\x02", b"\x8c", 6)
 }
 
 // Whole frames.
-fn whole() {
+fn whole(rt: &impl Print) -> io::Result<()> {
     gray(
-        b"the frame of 46 bytes: ",
+        rt,
+        "the frame of 46 bytes: ",
         &SMALL,
-        b"; samples",
-        b"; workspace",
-    );
+        "; samples",
+        "; workspace",
+    )?;
     gray(
-        b"cut to 45 bytes: ",
+        rt,
+        "cut to 45 bytes: ",
         &SMALL[0..45],
-        b"; samples",
-        b"; workspace",
-    );
-    spoiled(b"predictor byte 0: ", 43, 0);
-    spoiled(b"entry 1 of 7: ", 36, 7);
-    spoiled(b"entry 1 of 8: ", 36, 8);
-    spoiled(b"entry 1 of 9: ", 36, 9);
-    spoiled(b"count byte 2: ", 40, 2);
-    dot(b"Rgb, K = 1, indices 0 1 2: ", &frames::DOT);
-    dot(b"Rgb, K = 1, indices 0 0 1: ", &frames::TWICE);
+        "; samples",
+        "; workspace",
+    )?;
+    spoiled(rt, "predictor byte 0: ", 43, 0)?;
+    spoiled(rt, "entry 1 of 7: ", 36, 7)?;
+    spoiled(rt, "entry 1 of 8: ", 36, 8)?;
+    spoiled(rt, "entry 1 of 9: ", 36, 9)?;
+    spoiled(rt, "count byte 2: ", 40, 2)?;
+    dot(rt, "Rgb, K = 1, indices 0 1 2: ", &frames::DOT)?;
+    dot(rt, "Rgb, K = 1, indices 0 0 1: ", &frames::TWICE)
 }
 
-fn main() {
-    built_in();
-    needs();
-    words();
-    whole();
+fn main(rt: HostRuntime) -> io::Result<()> {
+    built_in(&rt)?;
+    needs(&rt)?;
+    words(&rt)?;
+    whole(&rt)
 }

@@ -1,38 +1,40 @@
-// Replays the stored list of cases, data/cases.myrl, over the exported entries: 404 frames with the answer of the customer's Rust
-// (291), its number with document 01's place (15), or document 01's (98), and what the planes hold after each. The list is written
-// by `cargo run --release -p replay-list -- FILE` in host/, seed 2026; host/README.md, "The stored list", has its form.
+// Replays the stored list of cases, data/cases.myrl, over the host's entries (crate magicyuv): 404 frames with the answer of the
+// customer's Rust (291), its number with document 01's place (15), or document 01's (98), and what the planes hold after each. The
+// list is written by `cargo run --release -p replay-list -- FILE` in host/, seed 2026; host/README.md, "The stored list", has its
+// form.
 //
 // Each case is decoded into memory that crate cases lends, which holds something else than it must hold afterwards, and judged by
-// it. A line says which case came out wrong and in what; the last line counts.
+// it. A line says which case came out wrong and in what; the last line counts. A list that cannot be opened, or a line that cannot
+// be printed, ends the program with that error.
 #![tactic(auto)]
 
-ghost use Rattle.std.specs.Prelude.{◌≡◌, ◌*◌, ◌≤◌, length};
+ghost use Rattle.std.specs.Prelude.{◌≡◌, ◌*◌, ◌≤◌, length, IfOk};
 
 use cases::{Case, Shape, Told, Verdict};
+use std::io::Read;
+use std::rt::Files;
+use std::{fs, io};
 
 // ---- what is printed
 
-fn print_wrong(i: usize, what: &[u8]) {
-    io::print_decimal(1, i as u64);
-    io::write_all(1, b" WRONG: ");
-    io::write_all(1, what);
-    io::write_all(1, b"\n");
+fn print_wrong(rt: &impl Print, i: usize, what: &str) -> io::Result<()> {
+    println!(rt; "{i} WRONG: {what}")
 }
 
 // 1 where the case is wrong, with a line that says in what.
-fn print_verdict(i: usize, v: Verdict) -> usize
-    ensures { result ≤ 1 }
+fn print_verdict(rt: &impl Print, i: usize, v: Verdict) -> io::Result<usize>
+    ensures { IfOk result (λ n. n ≤ 1) }
 {
     match v {
-        Verdict::Right => return 0,
-        Verdict::Number => print_wrong(i, b"the number"),
-        Verdict::Kind => print_wrong(i, b"the kind of place"),
-        Verdict::Place => print_wrong(i, b"the place"),
-        Verdict::Sample => print_wrong(i, b"a sample"),
-        Verdict::Word => print_wrong(i, b"a workspace word"),
-        Verdict::Form => print_wrong(i, b"not of the form, or larger than the memory"),
+        Verdict::Right => return Ok(0),
+        Verdict::Number => print_wrong(rt, i, "the number")?,
+        Verdict::Kind => print_wrong(rt, i, "the kind of place")?,
+        Verdict::Place => print_wrong(rt, i, "the place")?,
+        Verdict::Sample => print_wrong(rt, i, "a sample")?,
+        Verdict::Word => print_wrong(rt, i, "a workspace word")?,
+        Verdict::Form => print_wrong(rt, i, "not of the form, or larger than the memory")?,
     }
-    1
+    Ok(1)
 }
 
 // ---- a case
@@ -258,45 +260,42 @@ pub struct Taken {
 }
 
 // The case at the front of the rest of the list; all of the rest where that is no whole case.
-fn replay_next(i: usize, rest: &[u8], lengths: &mut [u8]) -> Taken
+fn replay_next(rt: &impl Print, i: usize, rest: &[u8], lengths: &mut [u8]) -> io::Result<Taken>
     requires { 1 ≤ length rest.now }
-    ensures { (1 ≤ result.bytes) × (result.bytes ≤ length rest.now) × (result.wrong ≤ 1) }
+    ensures { IfOk result (λ t. (1 ≤ t.bytes) × (t.bytes ≤ length rest.now) × (t.wrong ≤ 1)) }
 {
     if rest.len() < 76 {
-        return Taken {
+        return Ok(Taken {
             bytes: rest.len(),
-            wrong: print_verdict(i, Verdict::Form),
-        };
+            wrong: print_verdict(rt, i, Verdict::Form)?,
+        });
     }
     let c = cases::case_of(rest);
     let end = c.end;
     if rest.len() < end {
-        return Taken {
+        return Ok(Taken {
             bytes: rest.len(),
-            wrong: print_verdict(i, Verdict::Form),
-        };
+            wrong: print_verdict(rt, i, Verdict::Form)?,
+        });
     }
-    Taken {
+    Ok(Taken {
         bytes: end,
-        wrong: print_verdict(i, replay_case(rest, c, lengths)),
-    }
+        wrong: print_verdict(rt, i, replay_case(rest, c, lengths))?,
+    })
 }
 
 // Every case, one after another; then how many there were, and how many were wrong.
-fn replay_all(list: &[u8], lengths: &mut [u8]) {
+fn replay_all(rt: &impl Print, list: &[u8], lengths: &mut [u8]) -> io::Result<()> {
     let mut at = 0;
     let mut i = 0;
     let mut wrong = 0;
     while at < list.len() {
-        let t = replay_next(i, &list[at..], lengths);
+        let t = replay_next(rt, i, &list[at..], lengths)?;
         at += t.bytes;
         i += 1;
         wrong += t.wrong;
     }
-    io::print_decimal(1, i as u64);
-    io::write_all(1, b" cases, ");
-    io::print_decimal(1, wrong as u64);
-    io::write_all(1, b" wrong\n");
+    println!(rt; "{i} cases, {wrong} wrong")
 }
 
 // Room for the list.
@@ -306,15 +305,39 @@ fn room() -> [u8; 327680]
     [0; 327680]
 }
 
-fn main() {
-    let fd = os::open_read(b"cases.myrl");
-    if fd < 0 {
-        os::fail(b"cases.myrl");
-        return;
+// Room for a case's lengths.
+fn lengths_room() -> [u8; 65536]
+    ensures { 65536 ≡ length result }
+{
+    [0; 65536]
+}
+
+// Reads until the buffer is full, the input ends or a read fails: how many bytes lie at its front now.
+fn read_full(input: &mut impl Read, buffer: &mut [u8]) -> usize
+    ensures { result ≤ length buffer.new }
+{
+    let mut done = 0;
+    while done < buffer.len() {
+        let n = input.read(&mut buffer[done..]).unwrap_or(0);
+        if n == 0 {
+            break;
+        }
+        done += n;
     }
+    done
+}
+
+// How many bytes of the stored list lie at the front of `list` now.
+fn read_list(rt: &impl Files, list: &mut [u8]) -> io::Result<usize>
+    ensures { IfOk result (λ n. n ≤ length list.new) }
+{
+    let mut file = fs::open(rt, "cases.myrl")?;
+    Ok(read_full(&mut file, list))
+}
+
+fn main(rt: HostRuntime) -> io::Result<()> {
     let mut list = room();
-    let n = io::read_full(fd, &mut list);
-    libc::close(fd);
-    let mut lengths = io::large_buffer();
-    replay_all(&list[..n], &mut lengths);
+    let n = read_list(&rt, &mut list)?;
+    let mut lengths = lengths_room();
+    replay_all(&rt, &list[..n], &mut lengths)
 }

@@ -11,8 +11,8 @@
 - The numbers of crates, edits, public functions, tests, slips, wrong decoders, formats and stored cases are today's, and README.md's output of
   demo is what crates/demo/stdout has.
 - Every edit is named in docs/RED.md or docs/ARCHITECTURE.md.
-- docs/RED.md's tables of edits of definitions have every edit of those crates; every line of tools/equal_changes.txt stands in the file that it names, under a
-  comment with its reason.
+- docs/RED.md's tables of edits of definitions have every edit of those crates; every line of tools/equal_changes.txt stands in the file that it names, with what
+  is changed at the column that it names, under a comment with its reason.
 - The picture of the crates and the table of `requires` are what tools/picture.py and tools/statements.py make of the sources.
 Notes of a landing (docs/landings/) speak of their day: of them only the paths are checked.
 
@@ -31,8 +31,14 @@ ROOT = Path(__file__).resolve().parent.parent
 CRATES = statements.crates()
 FUNCTIONS = statements.functions()
 PLACEHOLDERS = ("NAME", "CRATE", "LABEL")
+# The commands of the kit.
+VERBS = set("ci check try test run lib lemma fmt tidy expand plant seed verdict all must-fail new doc version help names selftest".split())
 # Errors of the customer's Rust that nothing here names but pages.
 FOREIGN = {"BadMagic", "DimensionTooLarge", "ZeroDimension"}
+# The kit's own script.
+KITS = {"port.py"}
+# What names of an older spelling stand in.
+OLD = {"respell.py"}
 # Options of cargo, valgrind and rustfmt that pages give.
 OPTIONS = {"--release", "--no-deps", "--features", "--tool", "--toggle-collect"}
 WORDS = "zero one two three four five six seven eight nine ten".split()
@@ -43,22 +49,26 @@ def pages():
     return [p for p in own if "wip" not in p.parts]
 
 
+def below(folder):
+    """What stands below a folder, but what a build leaves."""
+    return [p for p in (ROOT / folder).rglob("*") if not {"out", "target", "__pycache__"} & set(p.relative_to(ROOT).parts)]
+
+
 def texts(folder, endings):
-    found = (p for p in (ROOT / folder).rglob("*") if p.suffix in endings and "target" not in p.parts)
-    return "\n".join(p.read_text() for p in found)
+    return "\n".join(p.read_text() for p in below(folder) if p.suffix in endings and p.name not in OLD)
 
 
 def known():
     """Every word that a name in backquotes may be."""
     text = texts("crates", (".rt", ".antt")) + texts("host", (".rs", ".toml", ".py", ".sh")) + texts("tools", (".py",))
     labels = {p.stem for p in (ROOT / "crates").glob("*/must-fail/*.edit")}
-    files = {p.name for p in (ROOT / "crates").rglob("*")}
-    return set(re.findall(r"[\w′₀₁₂]+(?:-[\w′₀₁₂]+)*", text)) | labels | files | set(CRATES)
+    files = {p.name for p in below("crates")}
+    return set(re.findall(r"[\w'₀₁₂]+(?:-[\w'₀₁₂]+)*", text)) | labels | files | set(CRATES)
 
 
 def counts():
     """Phrases of pages in which # stands for a number, and today's number."""
-    rust = {p: p.read_text() for p in (ROOT / "host").rglob("*.rs") if "target" not in p.parts}
+    rust = {p: p.read_text() for p in below("host") if p.suffix == ".rs"}
     fences = re.compile(r"(?m)^//[/!] ```(\w*)\n(?://[/!].*\n)*?//[/!] ```$")
     tests = sum(text.count("#[test]") + fences.findall(text).count("") for text in rust.values())
     data, cases, at = (ROOT / "crates/replay/data/cases.myrl").read_bytes(), [], 0
@@ -104,7 +114,7 @@ def paths(page, text):
 
 def files(text, there):
     """Names of source files, wherever they stand."""
-    return [f"no file {n}" for n in re.findall(r"(?<![\w.-])([\w-]+\.(?:rt|antt|py|rs|sh|c|edit))\b", text) if n not in there]
+    return [f"no file {n}" for n in re.findall(r"(?<![\w.-])([\w-]+\.(?:rt|antt|py|rs|sh|c|edit))\b", text) if n not in there | KITS]
 
 
 def edits(text):
@@ -152,14 +162,18 @@ def places(folder, text):
 
 
 def read(path):
-    files = [path] if path.is_file() else [p for p in path.rglob("*") if p.suffix in (".rt", ".antt")]
+    files = [path] if path.is_file() else [p for p in below(path) if p.suffix in (".rt", ".antt")]
     return "\n".join(p.read_text() for p in files)
 
 
 def commands(text):
     found = []
-    for words in re.findall(r"`rt (?:check|must-fail|try|staticlib|dev) ([a-z0-9 ]+)`", text):
-        found += [f"no crate {w}" for w in words.split() if w not in CRATES]
+    for words in re.findall(r"`rt (?:ci|must-fail) ([a-z0-9_ ]+)`", text) + re.findall(r"crates/(\w+)(?=\)? (?:&& )?rt )|`rt \w+` in crates/(\w+)", text):
+        found += [f"no crate {w}" for w in " ".join(words if isinstance(words, tuple) else [words]).split() if w not in CRATES and w not in PLACEHOLDERS]
+    verbs = re.findall(r"(?:`|&& |(?m:^))rt ([a-z-]+)", text)
+    found += [f"no command rt {v}" for v in verbs if v not in VERBS]
+    # These work on the crate in whose folder they run, and take no crate's name.
+    found += [f"rt {v} takes no crate: {w}" for v, w in re.findall(r"(?:`|&& |(?m:^))rt (check|try|run|lib|test|verdict|tidy|fmt|plant) ([a-z0-9_]+)", text) if w in CRATES]
     packages = re.findall(r'name = "([\w-]+)"', texts("host", (".toml",)))
     found += [f"no package {p}" for p in re.findall(r"cargo [^`\n]*-p ([\w-]+)", text) if p not in packages]
     sources = texts("host", (".rs", ".py", ".sh")) + texts("tools", (".py",))
@@ -189,16 +203,21 @@ def rows(text):
 
 
 def equal_changes():
-    """tools/equal_changes.txt: a line `file | change | line` is of a line of crates/scope/specs, and a reason stands above its group."""
+    """tools/equal_changes.txt: a line `file | change | line` is of a line of crates/scope/specs, with what is changed at the change's column; a reason
+    stands above its group."""
     found, reason = [], False
     for line in (ROOT / "tools/equal_changes.txt").read_text().splitlines():
         if line.startswith("#") or not line:
             reason = bool(line)
             continue
-        name, _, code = (line.split(" | ", 2) + ["", ""])[:3]
+        name, change, code = (line.split(" | ", 2) + ["", ""])[:3]
         file = ROOT / "crates/scope/specs" / name
-        if not file.exists() or code not in map(str.strip, file.read_text().splitlines()):
+        there = [l for l in file.read_text().splitlines() if l.strip() == code] if file.exists() else []
+        if not there:
             found.append(f"no such line: {line}")
+        place = re.fullmatch(r"(.+)->.+@(\d+)", change)
+        if there and not (place and any(l[int(place[2]) :].lstrip().startswith(place[1]) for l in there)):
+            found.append(f"not at that column: {line}")
         if not reason:
             found.append(f"no reason above: {line}")
     return found
@@ -220,7 +239,7 @@ def shown(text):
 
 def main():
     wrong, words, today = [], known(), counts()
-    there = {p.name for folder in ("crates", "host", "tools") for p in (ROOT / folder).rglob("*")}
+    there = {p.name for folder in ("crates", "host", "tools") for p in below(folder)}
     for page in pages():
         text = page.read_text()
         found = paths(page, text)

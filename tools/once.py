@@ -2,10 +2,11 @@
 """once.py: document 01 asks of every public function that any two outcomes which its statement allows are equal. So each has a lemma for it,
 or a row in docs/EXCEPTIONS.md, before its section on `requires`.
 
-A function's lemma stands in a file of its crate's proofs/ that imports the function as ALIAS, and is called ALIAS-once (its name with - for _,
-and without magicyuv_). It is about the function's own signature, and it settles all when its end says, without a further condition, that the
-answers are equal, if there is one, and the content of each `&mut` parameter. A lemma that says less is an exception too, and needs its row. A
-row of a function whose lemma settles all is out of date.
+A function's lemma stands in a file of its crate's proofs/ that imports the function's contract, and is called NAME_once, by the function's name (without
+magicyuv_). It is about the function's own signature and its own clauses: what the lemma takes of two outcomes is `Post` of the function's module `Reads`,
+or the clauses of its contract. It settles all when its end says, without a further condition, that the answers are equal, if there is one, and the
+content of each `&mut` parameter. A lemma that says less is an exception too, and needs its row. A row of a function whose lemma settles all is out of
+date.
 
 Usage, at the repository's root: python3 tools/once.py
 Prints what is not so; status 1 if anything is not. It needs no prover: that the lemmas are proved is the gate's to say.
@@ -35,9 +36,12 @@ def public():
 def lemma(f):
     """The statement of a function's lemma, or nothing."""
     for text in PROOFS[f.crate]:
-        alias = re.search(rf"(?m)^use Rattle·{f.crate}·proofs\.proofs\.(?:\w+\.)*{f.name} as (\S+)$", text)
-        found = alias and re.search(rf"(?ms)^ *pub {alias[1]}-once : (.*?)^ *{alias[1]}-once ", text)
-        if found and f" {alias[1]}.signature " in found[1]:
+        alias = re.search(rf"(?m)^use Rattle\.{f.crate}\.specs\.contracts\.(?:\w+\.)*{f.name} as (\S+)$", text)
+        reads = re.search(rf"(?m)^use Rattle\.{f.crate}\.proofs\.(?:\w+\.)*{f.name}\.Reads as (\S+)$", text)
+        name = f.name.removeprefix("magicyuv_") + "_once"
+        found = alias and re.search(rf"(?ms)^ *pub {name} : (.*?)^ *{name} ", text)
+        taken = [w for w in (f"{alias[1]}.clauses ", reads and f"{reads[1]}.Post ") if w] if alias else []
+        if found and f" {alias[1]}.signature " in found[1] and any(f"({w}" in found[1] or f" {w}" in found[1] for w in taken):
             return found[1]
     return None
 
@@ -47,7 +51,7 @@ def settles(statement, answers, lent):
     if re.search(r"→ Settles \(\S+\.Post κs a\)\s*$", statement):
         return lent == 0
     end = statement.rsplit("r₂ s₂", 1)[-1].strip().removeprefix("→")
-    memories = set(re.findall(r"now \(s₁ ([.\d ]+)\) ≡ now \(s₂ \1\)", end))
+    memories = set(re.findall(r"s₁((?:\.\d+)+)\.now ≡ s₂\1\.now(?![\w.])", end))
     return "→" not in end and ("r₁ ≡ r₂" in end or not answers) and len(memories) == lent
 
 

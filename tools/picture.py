@@ -64,6 +64,7 @@ WORDS = {
     "demands": "the three demands, of every function that a host can call",
     "alone": "a table and a reading by themselves",
     "magicyuv": "the host's boundary: numbers and slices in, three numbers out",
+    "magicyuv_c": "the archive: the same four functions, exported",
     "demo": "program: frames and known answers built in",
     "cases": "the stored list's form, the memory lent, the verdict",
     "replay": "program: the stored list over the exported functions",
@@ -76,7 +77,7 @@ def below():
     for line in (ROOT / "crates.txt").read_text().splitlines():
         if ":" in line and not line.startswith("#"):
             name, names = line.split(":")
-            found[name] = names.split()
+            found[name.split()[0]] = names.split()
     return {crate: [n for n in names if n in found] for crate, names in found.items()}
 
 

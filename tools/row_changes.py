@@ -1,6 +1,6 @@
 #!/usr/bin/env python3
 """row_changes.py: the tables of refusals (crates/scope/specs, Frame.antt and Alone.antt) with a row that never applies, two adjacent rows exchanged, or two
-adjacent parts of `table` exchanged: one change at a time, in a copy, and `rt check scope` must refuse each. Exchanges that change no value are in EQUAL, with the reason.
+adjacent parts of `table` exchanged: one change at a time, in a copy, and `rt check` in crates/scope must refuse each. Exchanges that change no value are in EQUAL, with the reason.
 
 Usage, at the repository's root: python3 tools/row_changes.py   (some seconds a change; status 1 where a change passes that should not)"""
 import re
@@ -12,7 +12,7 @@ from pathlib import Path
 
 ROOT = Path(__file__).resolve().parent.parent
 ROW = re.compile(r"^(\s+(?:∷ |\+\+ )?)(row (\d+) .*)()$")
-PART = re.compile(r"^(\s+(?:\+\+ \(?)?)((?:\w+Rows|rowsOfEach) (?:[^()]|\((?:[^()]|\([^()]*\))*\))*)(\)*)$")
+PART = re.compile(r"^(\s+(?:\+\+ \(?)?)((?:\w+_rows|rows_of_each) (?:[^()]|\((?:[^()]|\([^()]*\))*\))*)(\)*)$")
 # Rows of one number and place may change places; and a plane with no word asks for no byte, so its 14 and the 12 by size never both apply.
 EQUAL = {("6", "6"), ("8", "8"), ("12", "12"), ("14", "12")}
 
@@ -42,14 +42,14 @@ def exchanged(lines, i, a, j, b):
 def main():
     passed = tried = equal = 0
     with tempfile.TemporaryDirectory() as folder:
-        shutil.copytree(ROOT / "crates/scope", f"{folder}/crates/scope")
+        shutil.copytree(ROOT / "crates/scope", f"{folder}/crates/scope", ignore=shutil.ignore_patterns("out"))
         Path(f"{folder}/crates.txt").write_text("scope:\n")
         for name in ("Frame.antt", "Alone.antt"):
             file = Path(f"{folder}/crates/scope/specs/{name}")
             text = file.read_text()
             for what, refused, lines in changes(text.split("\n")):
                 file.write_text("\n".join(lines))
-                status = subprocess.run(["rt", "check", "scope"], cwd=folder, capture_output=True, text=True)
+                status = subprocess.run(["rt", "check"], cwd=f"{folder}/crates/scope", capture_output=True, text=True)
                 tried, equal = tried + 1, equal + (not refused)
                 if "not in scope" in status.stdout + status.stderr or (status.returncode == 0) == refused:
                     passed += 1

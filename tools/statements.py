@@ -3,7 +3,8 @@
 
 Printed: for each crate its public functions, its functions in all, its edits, and its lines of code, specifications and proofs (blank
 lines and comments are not counted); the public functions without an `ensures`; the functions with a `requires`, each with those
-that call it; and the longest parameter list of a function that is not exported. Exported is what is `extern "C"`.
+that call it; and the longest parameter list of a function that is not exported. Exported is what is `extern "C"`, and the function of
+the same name that it calls.
 
 Usage, at the repository's root (no file beside the clone is needed):
   python3 tools/statements.py            prints all of that; status 1 if a public function has no `ensures`
@@ -22,7 +23,7 @@ HEAD = re.compile(r'^(pub |pub\(crate\) )?(extern "C" )?fn (\w+)', re.M)
 
 def crates():
     lines = (ROOT / "crates.txt").read_text().splitlines()
-    return [line.split(":")[0] for line in lines if ":" in line and not line.startswith("#")]
+    return [line.split(":")[0].split()[0] for line in lines if ":" in line and not line.startswith("#")]
 
 
 def closing(text, at):
@@ -87,8 +88,16 @@ def callers(one, every):
     return sorted(set(found), key=found.index)
 
 
+def brought(text):
+    """The paths that the `use` lines of a source bring in, one for each name of a list in braces."""
+    found = set()
+    for path, names in re.findall(r"(?m)^(?:pub )?use ((?:\w+::)*)(\w+|\{[^}]*\});", text):
+        found |= {path + name.split(" as ")[0] for name in re.split(r",\s*", names.strip("{}"))}
+    return found
+
+
 def uses(crate, one):
-    return any(f"use {one.crate}::{one.name};" in path.read_text() for path in sources(crate))
+    return any(re.fullmatch(rf"{one.crate}::(?:\w+::)*{one.name}", b) for path in sources(crate) for b in brought(path.read_text()))
 
 
 def lines(crate, folder, ending):
@@ -140,9 +149,9 @@ def page(every, write):
 
 
 def report(every):
-    print(f"{'crate':10}{'public':>8}{'all':>6}{'edits':>7}{'code':>7}{'specs':>7}{'proofs':>8}")
+    print(f"{'crate':11}{'public':>8}{'all':>6}{'edits':>7}{'code':>7}{'specs':>7}{'proofs':>8}")
     for name, *numbers in sizes(every):
-        print(name.ljust(10) + "".join(str(n).rjust(w) for n, w in zip(numbers, (8, 6, 7, 7, 7, 8))))
+        print(name.ljust(11) + "".join(str(n).rjust(w) for n, w in zip(numbers, (8, 6, 7, 7, 7, 8))))
     public = [f for f in every if f.public]
     bare = [f.full() for f in public if not f.has("ensures")]
     print(f"\n{len(public)} public functions in {len(crates())} crates; without an `ensures`: {', '.join(bare) or 'none'}")
@@ -150,9 +159,11 @@ def report(every):
     print(f"\nwith a `requires`: {sum(f.public for f in asking)} public and {sum(not f.public for f in asking)} other functions")
     for f in asking:
         print(f"  {'pub ' if f.public else '    '}{f.full()}: called by {', '.join(callers(f, every)) or 'nobody'}")
-    longest = max((f for f in every if not f.exported), key=lambda f: f.parameters)
-    most = [f.full() for f in every if not f.exported and f.parameters == longest.parameters]
-    print(f"\nlongest parameter list of a function that is not exported: {longest.parameters} ({', '.join(most)})")
+    exported = {f.name for f in every if f.exported}
+    own = [f for f in every if f.name not in exported]
+    longest = max(f.parameters for f in own)
+    most = [f.full() for f in own if f.parameters == longest]
+    print(f"\nlongest parameter list of a function that is not exported: {longest} ({', '.join(most)})")
     return 1 if bare else 0
 
 

@@ -3,9 +3,9 @@
 8-bit text under the substitutions of tools/twins.txt, in their order. So a reader reads one.
 
 In tools/twins.txt a line `# crates NAME8 NAME16` or `# files PATH8 PATH16` begins a list (lists one after another share what follows them), and
-each line `8-bit text => 16-bit text` is one substitution; \\n stands for a line's end. At 16 bits the checker asks one need more for each
-element that is read, stored or lent (its place times two): those lines are substitutions too. Must-fail edits are not compared: a telling edit
-need not stand at both widths.
+each line `8-bit text => 16-bit text` is one substitution; \\n stands for a line's end. Where the bound of the 16-bit width is a goal of its own, or its
+clause has a name of its own, those lines are substitutions too. Compared are src/, specs/ and proofs/. Must-fail edits are not: a telling edit need not
+stand at both widths.
 
 Usage, at the repository's root:
   python3 tools/twins.py            says which files are not what the substitutions give; status 1 if any is not
@@ -36,9 +36,9 @@ def lists():
 
 
 def texts(path):
-    """Every file at a path, but must-fail edits, by its name there."""
+    """Every file at a path, but must-fail edits and what a build leaves, by its name there."""
     base = ROOT / path
-    files = [base] if base.is_file() else [p for p in base.rglob("*") if p.is_file() and p.parent.name != "must-fail"]
+    files = [base] if base.is_file() else [p for p in base.rglob("*") if p.is_file() and p.relative_to(base).parts[0] not in ("must-fail", "out")]
     return {"" if p == base else str(p.relative_to(base)): p.read_text() for p in files}
 
 

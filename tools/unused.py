@@ -15,11 +15,11 @@ import pathlib
 import re
 import sys
 
-WORD = re.compile(r"[^\s(){}⌜⌝;,.|\"`]+")
+WORD = re.compile(r"[^\s(){};,.|\"`]+")
 USE = re.compile(r"(?:ghost |pub )?use ")
 NAMED = re.compile(r"((?:ghost |pub )?use) (\S+?)\.\{(.*)\}(;?)$")
 ALIAS = re.compile(r"use (\S+) as (\S+)$")
-PATH = re.compile(r"use \w+(?:::\w+)*::(\w+);$")
+PATH = re.compile(r"((?:pub )?use) (\w+(?:::\w+)*)::(\w+|\{[^{}]*\});$")
 DECLARED = re.compile(r" *(?:abbrev |unfoldable )?(?:pub )?(?:(record|data) ([^\s:(){}]+)|ruleset (\S+) =|([^\s:()]+) : )")
 
 
@@ -41,8 +41,13 @@ class File:
 
     def has(self, name):
         """Whether the code has a name, or all the pieces of an operator's name."""
-        pieces = [p for p in name.split("_") if p] if "_" in (name[0], name[-1]) else [name]
+        pieces = [p for p in name.split("◌") if p]
         return name in self.words or all(p in self.words if WORD.fullmatch(p) else p in self.text for p in pieces)
+
+
+def brought(names):
+    """The names at the end of a Rust path: one, or a list in braces."""
+    return [n.strip() for n in names.strip("{}").split(",")]
 
 
 def imports(file, fix):
@@ -57,8 +62,11 @@ def imports(file, fix):
             line = f"{named[1]} {named[2]}.{{{', '.join(used)}}}{named[4]}" if used else None
         elif alias and not re.search(rf"(?<![^\s(){{}};,]){re.escape(alias[2])}\.", file.text):
             found, line = found + [alias[2]], None
-        elif path and path[1] not in re.findall(r"\w+", file.text):
-            found, line = found + [path[1]], None
+        elif path and path[1] != "pub use":
+            names = brought(path[3])
+            used = [n for n in names if n.split(" as ")[-1] in re.findall(r"\w+", file.text)]
+            found += [n for n in names if n not in used]
+            line = (f"{path[1]} {path[2]}::{used[0] if len(used) == 1 else '{' + ', '.join(used) + '}'};" if used else None) if used != names else line
         kept += [] if line is None else [line]
     if fix and found:
         file.path.write_text("\n".join(kept) + "\n")
@@ -89,9 +97,9 @@ def declarations(file):
 
 
 def module(file):
-    """The import paths by which other files name a file of laws or definitions: from its own crate, and from another."""
+    """The import path by which other files name a file of laws or definitions."""
     _, crate, kind, name = file.path.with_suffix("").parts
-    return {f"Rattle·{crate}·{kind}.{kind}.{name}", f"Rattle·{crate}.{kind}.{name}"}
+    return f"Rattle.{crate}.{kind}.{name}"
 
 
 def laws(files, ends):
@@ -104,13 +112,16 @@ def laws(files, ends):
                 cited |= {(named[2], n.split(" as ")[0].strip()) for n in named[3].split(",")}
             elif alias:
                 cited |= {(alias[1], n) for n in re.findall(rf"(?<![^\s(){{}};,]){re.escape(alias[2])}\.({WORD.pattern})", file.text)}
+        # an attribute `#[tactic(auto, using(crate::proofs::M::law))]` cites a law too
+        for crate, kind, name, law in re.findall(r"\b(\w+)::(proofs|specs)::(\w+)::([\w'-]+)", "\n".join(re.findall(r"#\[tactic\([^\]]*\]", file.text))):
+            cited.add((f"Rattle.{file.crate if crate == 'crate' else crate}.{kind}.{name}", law))
     found = []
     for file in files:
         if not file.stated or file.path.name in ("Lib.antt", "Once.antt"):
             continue
         for name, first, last in declarations(file):
             rest = "\n".join(file.code[:first] + file.code[last + 1:])
-            if name not in ends and name not in WORD.findall(rest) and not any((m, name) in cited for m in module(file)):
+            if name not in ends and name not in WORD.findall(rest) and (module(file), name) not in cited:
                 found.append(f"{file.path}: {name}")
     return found
 
@@ -124,6 +135,7 @@ def functions(files, ends):
             twins |= {narrow: wide, wide: narrow}
     sources = [f for f in files if f.path.suffix == ".rt"]
     calls = {(c, f.crate) for f in sources for c in re.findall(r"\b(?:\w+::)+\w+", "\n".join(f.imports + f.code))}
+    calls |= {(f"{p[2]}::{n.split(' as ')[0]}", f.crate) for f in sources for p in map(PATH.match, f.imports) if p for n in brought(p[3])}
     found = []
     for file in sources:
         for name in re.findall(r"(?m)^pub fn (\w+)", file.text):
@@ -142,7 +154,7 @@ def stale(files, ends):
 
 
 def main():
-    paths = sorted(p for p in pathlib.Path("crates").rglob("*") if p.suffix in (".rt", ".antt"))
+    paths = sorted(p for p in pathlib.Path("crates").rglob("*") if p.suffix in (".rt", ".antt") and p.parts[2] in ("src", "specs", "proofs"))
     fix = "--fix" in sys.argv
     loose = [u for p in paths for u in imports(File(p), fix)]
     files = [File(p) for p in paths]

@@ -67,7 +67,7 @@ WORDS = {
     "magicyuv_c": "the archive: the same four functions, exported",
     "demo": "program: frames and known answers built in",
     "cases": "the stored list's form, the memory lent, the verdict",
-    "replay": "program: the stored list over the exported functions",
+    "replay": "program: the stored list over the host's functions",
 }
 
 

@@ -10,7 +10,7 @@ use lib.ListN.{take, drop}
 use Rattle.scope.specs.Base as base
 use Rattle.scope.specs.Base.{sum_below}
 use Rattle.scope.specs.Geometry.{plane_count, lengths_of}
-use Rattle.scope.specs.Words.{longest, shortest, need}
+use Rattle.scope.specs.Words.{longest, shortest}
 use Rattle.scope.specs.declared.Geometry.{Geometry}
 use Rattle.scope.specs.declared.Place.{Place}
 use Rattle.scope.specs.declared.Answer.{Answer}

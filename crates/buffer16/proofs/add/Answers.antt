@@ -1,5 +1,4 @@
 -- `buffer16::add` meets its contract: the loop rebuilds the buffer in place from `to` on. Assumes nothing.
-use Prim.Native.Nat.{◌+◌, ◌-◌, ◌≤◌, ◌<◌}
 use Rattle.memory.proofs.Sums.{summing}
 use Rattle.buffer16.proofs.add.Goals as goal
 
@@ -11,4 +10,3 @@ loop-i-preserved c = search summing
 
 pub returns : goal.returns
 returns c = search summing
-

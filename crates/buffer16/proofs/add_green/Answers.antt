@@ -14,4 +14,3 @@ returns-then-is_correlated c = search coloured_both
 
 pub returns-else-is_correlated : goal.returns-else-is_correlated
 returns-else-is_correlated c = search coloured_none
-

@@ -1,5 +1,4 @@
 -- `buffer16::add_rows` meets its contract: the loop adds row after row. Assumes nothing.
-use Prim.Native.Nat.{◌-◌, ◌≤◌, ◌<◌}
 use Rattle.planes.proofs.Adding.{adds}
 use Rattle.buffer16.proofs.add_rows.Goals as goal
 
@@ -8,4 +7,3 @@ loop-r-init c = search adds
 
 pub loop-r-preserved : goal.loop-r-preserved
 loop-r-preserved c = search adds
-

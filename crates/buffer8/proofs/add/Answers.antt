@@ -1,6 +1,4 @@
 -- `buffer8::add` meets its contract: the loop rebuilds the buffer in place from `to` on. Assumes nothing.
-use mathlib.Core.Path.{◌≡◌}
-use Prim.Native.Nat.{◌+◌, ◌-◌, ◌≤◌}
 use Rattle.memory.proofs.Sums.{summing}
 use Rattle.buffer8.proofs.add.Goals as goal
 
@@ -12,4 +10,3 @@ loop-i-preserved c = search summing
 
 pub returns : goal.returns
 returns c = search summing
-

@@ -10,4 +10,3 @@ invariant-loop-i l = At (added l.depth l.from l.to) l.initial.planes l.planes (l
 
 abbrev pub decreases-loop-i : goal.decreases-loop-i
 decreases-loop-i l = l.n - l.i
-

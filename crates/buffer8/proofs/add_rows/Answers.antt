@@ -1,6 +1,4 @@
 -- `buffer8::add_rows` meets its contract: the loop adds row after row. Assumes nothing.
-use mathlib.Core.Path.{◌≡◌}
-use Prim.Native.Nat.{◌-◌}
 use Rattle.planes.proofs.Adding.{adds}
 use Rattle.buffer8.proofs.add_rows.Goals as goal
 
@@ -9,4 +7,3 @@ loop-r-init c = search adds
 
 pub loop-r-preserved : goal.loop-r-preserved
 loop-r-preserved c = search adds
-

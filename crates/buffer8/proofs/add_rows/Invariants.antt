@@ -8,4 +8,3 @@ invariant-loop-r l = AddsTo l.depth l.from l.to l.initial.planes l.planes l.r ×
 
 abbrev pub decreases-loop-r : goal.decreases-loop-r
 decreases-loop-r l = l.to.rows - l.r
-

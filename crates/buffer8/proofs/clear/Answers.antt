@@ -1,5 +1,4 @@
 -- `buffer8::clear` meets its contract: the loop rebuilds the slice in place, each element as 0. Assumes nothing.
-use Prim.Native.Nat.{◌-◌}
 use Rattle.memory.proofs.Clearing.{clearing}
 use Rattle.buffer8.proofs.clear.Goals as goal
 
@@ -11,4 +10,3 @@ loop-s-preserved c = search clearing
 
 pub returns : goal.returns
 returns c = search clearing
-

@@ -9,4 +9,3 @@ invariant-loop-s l = At cleared l.initial.samples l.samples l.s
 
 abbrev pub decreases-loop-s : goal.decreases-loop-s
 decreases-loop-s l = length l.initial.samples - l.s
-

@@ -6,4 +6,3 @@ returns-in-Refused c = search frames
 
 pub returns-in-Done : goal.returns-in-Done
 returns-in-Done c = search frames
-

@@ -7,4 +7,3 @@ returns-then-bytes-samples c = search sizings
 
 pub returns : goal.returns
 returns c = search sizings
-

@@ -18,4 +18,3 @@ returns-then-b-eq0 c = search slicings
 
 pub returns : goal.returns
 returns c = search slicings
-

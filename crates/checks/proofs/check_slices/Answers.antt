@@ -1,4 +1,3 @@
-use Prim.Native.Nat.{◌-◌}
 use Rattle.layout.proofs.Going.{goes, going_placed, going_plane}
 use Rattle.checks.proofs.Framed.{slice_refused, slice_step, short_small}
 use borrow.Author.Rules.{rules}
@@ -48,4 +47,3 @@ loop-s-preserved c =
 
 pub returns-in-Refused : goal.returns-in-Refused
 returns-in-Refused c = search slice_refused
-

@@ -8,4 +8,3 @@ invariant-loop-s l = Going (slices_by l.frame l.g l.shortest) l.frame l.g l.t l.
 
 abbrev pub decreases-loop-s : goal.decreases-loop-s
 decreases-loop-s l = l.t - l.s
-

@@ -12,4 +12,3 @@ returns-in-Refused-room c = search wordings
 
 pub returns-in-Done-room : goal.returns-in-Done-room
 returns-in-Done-room c = search wordings
-

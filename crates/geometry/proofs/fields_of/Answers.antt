@@ -11,4 +11,3 @@ returns-then-g c = (search sides, search rules, search rules)
 pub returns : goal.returns
 unfolding geo.fields
 returns c = (search sides, search rules, search rules)
-

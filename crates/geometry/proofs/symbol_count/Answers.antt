@@ -4,4 +4,3 @@ use Rattle.geometry.proofs.symbol_count.Goals as goal
 
 pub returns : goal.returns
 returns c = (search powers, search powers, search powers)
-

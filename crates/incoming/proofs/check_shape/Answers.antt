@@ -25,4 +25,3 @@ returns-then-not-divides-3 c = search shapes
 
 pub returns : goal.returns
 returns c = search shapes
-

@@ -10,4 +10,3 @@ returns-then-planes-all_elements c = search lent_sizes
 
 pub returns : goal.returns
 returns c = search lent_sizes
-

@@ -10,4 +10,3 @@ returns-then-is_subsampled c = search tests
 
 pub returns : goal.returns
 returns c = search tests
-

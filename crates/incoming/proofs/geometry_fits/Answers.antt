@@ -26,4 +26,3 @@ returns-then-not-factor_fits-2 c = search chained depth 14
 pub returns : goal.returns
 unfolding geo.geometry_fits
 returns c = search chained depth 14
-

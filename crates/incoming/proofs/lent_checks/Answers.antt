@@ -10,4 +10,3 @@ returns-in-Refused c = search lent
 
 pub returns-in-Done : goal.returns-in-Done
 returns-in-Done c = search lent
-

@@ -7,4 +7,3 @@ returns-then-n-lt1 c = search tests
 
 pub returns : goal.returns
 returns c = search tests
-

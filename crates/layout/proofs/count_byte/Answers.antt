@@ -3,4 +3,3 @@ use Rattle.layout.proofs.count_byte.Goals as goal
 
 pub returns : goal.returns
 returns c = search count_is
-

@@ -4,4 +4,3 @@ use Rattle.layout.proofs.le32_at.Goals as goal
 
 pub returns : goal.returns
 returns c = (search le32_is, search rules)
-

@@ -3,4 +3,3 @@ use Rattle.layout.proofs.plane_index.Goals as goal
 
 pub returns : goal.returns
 returns c = search index_is
-

@@ -4,4 +4,3 @@ use Rattle.layout.proofs.preamble_end.Goals as goal
 
 pub returns : goal.returns
 returns c = (search preamble_ends, search rules)
-

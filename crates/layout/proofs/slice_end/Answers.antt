@@ -6,4 +6,3 @@ returns-then-s-t c = search ends_next
 
 pub returns : goal.returns
 returns c = search ends_last
-

@@ -4,4 +4,3 @@ use Rattle.layout.proofs.slice_start.Goals as goal
 
 pub returns : goal.returns
 returns c = (search starts_at, search rules)
-

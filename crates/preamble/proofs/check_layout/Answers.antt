@@ -7,4 +7,3 @@ returns-in-Refused c = search layouts
 
 pub returns-in-Done : goal.returns-in-Done
 returns-in-Done c = search layouts
-

@@ -1,5 +1,4 @@
 -- `preamble::check_order` meets its contract: the loop counts the slices of each plane, and stops at the first that has no room (document 01, "Layout" and "Refusal numbers"). Assumes nothing.
-use Prim.Native.Nat.{◌-◌}
 use Rattle.preamble.proofs.Walking.{walks, walk_full}
 use Rattle.preamble.proofs.check_order.Goals as goal
 
@@ -22,4 +21,3 @@ returns-then-k-seen c =
 
 pub loop-s-preserved : goal.loop-s-preserved
 loop-s-preserved c = search walks
-

@@ -7,4 +7,3 @@ invariant-loop-s l = Walk l.frame l.g l.planes l.k l.t l.seen l.s
 
 abbrev pub decreases-loop-s : goal.decreases-loop-s
 decreases-loop-s l = l.t - l.s
-

@@ -22,4 +22,3 @@ returns-then-end-start-3 c = search preamble
 
 pub returns : goal.returns
 returns c = search preamble
-

@@ -10,4 +10,3 @@ invariant-loop-r l = Rebuilds l.depth l.kind l.width l.pitch l.rows l.f l.initia
 
 abbrev pub decreases-loop-r : goal.decreases-loop-r
 decreases-loop-r l = l.rows - l.r
-

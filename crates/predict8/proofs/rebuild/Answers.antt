@@ -1,6 +1,4 @@
 -- `predict8::rebuild` meets its contract: the loop goes over the slice row after row. Assumes nothing.
-use mathlib.Core.Path.{◌≡◌}
-use Prim.Native.Nat.{◌-◌, ◌*◌, ◌<◌}
 use Rattle.predict.proofs.Rebuilding.{rebuilds}
 use Rattle.predict8.proofs.rebuild.Goals as goal
 
@@ -12,4 +10,3 @@ loop-r-preserved c = search rebuilds
 
 pub returns-clause-samples : goal.returns-clause-samples
 returns-clause-samples c = search rebuilds
-

@@ -4,4 +4,3 @@ use Rattle.rows16.proofs.first_row_u16.Goals as goal
 
 pub returns : goal.returns
 returns c = search row_parts
-

@@ -7,4 +7,3 @@ invariant-loop-i l = Carried l.depth l.back l.initial.s l.s l.start l.i l.end l.
 
 abbrev pub decreases-loop-i : goal.decreases-loop-i
 decreases-loop-i l = l.end - l.i
-

@@ -4,4 +4,3 @@ use Rattle.rows16.proofs.gradient_sum_u16.Goals as goal
 
 pub returns : goal.returns
 returns c = search formulas
-

@@ -10,4 +10,3 @@ returns-then-kind-eq2 c = search row_parts
 
 pub returns : goal.returns
 returns c = search row_parts
-

@@ -8,4 +8,3 @@ invariant-loop-i l = Sweep (leftward l.depth) l.initial.s l.s l.start l.i l.end 
 
 abbrev pub decreases-loop-i : goal.decreases-loop-i
 decreases-loop-i l = l.end - l.i
-

@@ -9,4 +9,3 @@ invariant-loop-i l = Sweep (across l.depth t87_median l.back) l.initial.s l.s l.
 
 abbrev pub decreases-loop-i : goal.decreases-loop-i
 decreases-loop-i l = l.end - l.i
-

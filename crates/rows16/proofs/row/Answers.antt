@@ -7,4 +7,3 @@ returns-then-start-back c = search row_parts
 
 pub returns : goal.returns
 returns c = search row_parts
-

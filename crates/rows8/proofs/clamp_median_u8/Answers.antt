@@ -4,4 +4,3 @@ use Rattle.rows8.proofs.clamp_median_u8.Goals as goal
 
 pub returns : goal.returns
 returns c = search formulas
-

@@ -1,5 +1,5 @@
 -- `rows8::gradient_row_u8` meets its contract. Assumes nothing.
-use Rattle.std.proofs.Common.{◌≡◌, ◌-◌, ◌<◌, ◌≤◌, rules}
+use Rattle.std.proofs.Common.{rules}
 use Rattle.rows.proofs.Across.{across_rows}
 use Rattle.rows8.proofs.gradient_row_u8.Goals as goal
 
@@ -8,4 +8,3 @@ loop-i-preserved c = (search across_rows, search across_rows, search across_rows
 
 pub returns : goal.returns
 returns c = search across_rows
-

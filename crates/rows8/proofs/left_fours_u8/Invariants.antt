@@ -8,4 +8,3 @@ invariant-loop-i l = (l.s ≡ swept (leftward 8) l.initial.s l.start (l.i - l.st
 
 abbrev pub decreases-loop-i : goal.decreases-loop-i
 decreases-loop-i l = l.end - l.i
-

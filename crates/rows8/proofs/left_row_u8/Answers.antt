@@ -1,5 +1,5 @@
 -- `rows8::left_row_u8` meets its contract. Assumes nothing.
-use Rattle.std.proofs.Common.{◌≡◌, ◌-◌, ◌<◌, ◌≤◌, rules}
+use Rattle.std.proofs.Common.{rules}
 use Rattle.memory.proofs.InPlace.{sweep_end}
 use Rattle.memory.proofs.Swept.{swept_on}
 use Rattle.rows.proofs.Across.{across_rows}
@@ -10,4 +10,3 @@ loop-i-preserved c = (search across_rows, search across_rows, search rules, sear
 
 pub returns : goal.returns
 returns c = search (sweep_end, swept_on)
-

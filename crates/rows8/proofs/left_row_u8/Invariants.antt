@@ -8,4 +8,3 @@ invariant-loop-i l = Sweep (leftward 8) l.initial.s l.s l.from l.i l.end × (l.l
 
 abbrev pub decreases-loop-i : goal.decreases-loop-i
 decreases-loop-i l = l.end - l.i
-

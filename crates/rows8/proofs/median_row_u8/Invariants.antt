@@ -9,4 +9,3 @@ invariant-loop-i l = Sweep (across 8 (clamp_median 8) l.back) l.initial.s l.s l.
 
 abbrev pub decreases-loop-i : goal.decreases-loop-i
 decreases-loop-i l = l.end - l.i
-

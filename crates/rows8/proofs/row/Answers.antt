@@ -7,4 +7,3 @@ returns-then-start-back c = search eights
 
 pub returns : goal.returns
 returns c = search eights
-

@@ -10,4 +10,3 @@ returns-then-is_subsampled c = search sides
 
 pub returns : goal.returns
 returns c = search sides
-

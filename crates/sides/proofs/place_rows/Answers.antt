@@ -10,4 +10,3 @@ returns-then-full-left c = search place_rows
 
 pub returns : goal.returns
 returns c = search place_rows
-

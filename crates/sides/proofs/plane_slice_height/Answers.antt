@@ -10,4 +10,3 @@ returns-then-is_small c = (search sides, search sides, search sides)
 pub returns : goal.returns
 unfolding geo.plane_slice_height
 returns c = (search sides, search sides, search sides)
-

@@ -4,4 +4,3 @@ use Rattle.stretches.proofs.all_elements.Goals as goal
 
 pub returns : goal.returns
 returns c = (search sums, search sums)
-

@@ -13,4 +13,3 @@ returns-else-p-eq1 c = search swaps
 
 pub returns-else-is_correlated : goal.returns-else-is_correlated
 returns-else-is_correlated c = search swaps
-

@@ -4,4 +4,3 @@ use Rattle.stretches.proofs.plane_samples.Goals as goal
 
 pub returns : goal.returns
 returns c = (search samples_are, search samples_most)
-

@@ -7,4 +7,3 @@ samples_below-requires-clause-n_bound c = search sums
 
 pub returns : goal.returns
 returns c = (search sums, search sums)
-

@@ -1,6 +1,4 @@
 -- `stretches::samples_below` meets its contract: the loop sums the planes before n (document 01, "Layout"). Assumes nothing.
-use mathlib.Core.Path.{◌≡◌}
-use Prim.Native.Nat.{◌-◌, ◌*◌, ◌≤◌}
 use Rattle.geometry.proofs.Figures.{sums}
 use borrow.Author.Rules.{rules}
 use Rattle.stretches.proofs.samples_below.Goals as goal
@@ -10,4 +8,3 @@ loop-b-init c = (search sums, search rules, search rules, search rules)
 
 pub loop-b-preserved : goal.loop-b-preserved
 loop-b-preserved c = (search sums, search rules, search rules, search rules)
-

@@ -9,4 +9,3 @@ invariant-loop-b l = (l.at ≡ sum_below l.b (plane_samples l.g)) × (l.at ≤ l
 
 abbrev pub decreases-loop-b : goal.decreases-loop-b
 decreases-loop-b l = l.n - l.b
-

@@ -12,4 +12,3 @@ returns-clause-stretch c = search stretch_is
 
 pub returns-clause-bounds : goal.returns-clause-bounds
 returns-clause-bounds c = search stretch_most
-

@@ -1,5 +1,4 @@
 -- `build_all` lays every plane's table (document 01, "Words and lookup").
-use Prim.Native.Nat.{◌-◌}
 use Rattle.tables.proofs.Laying.{laid_first, laid_next, laid_tables, laid_all}
 use Rattle.tables.proofs.build_all.Goals as goal
 
@@ -14,4 +13,3 @@ returns-clause-tables c = search laid_tables
 
 pub returns-clause-workspace : goal.returns-clause-workspace
 returns-clause-workspace c = search laid_all
-

@@ -7,4 +7,3 @@ invariant-loop-p l = LaidBefore l.g l.lengths l.initial.workspace l.workspace l.
 
 abbrev pub decreases-loop-p : goal.decreases-loop-p
 decreases-loop-p l = l.planes - l.p
-

@@ -15,4 +15,3 @@ build_part-requires-clause-from_le_to c = (search stretch_ahead, search stretch_
 
 pub returns : goal.returns
 returns c = search lay_table
-

@@ -1,5 +1,4 @@
 -- `codes_of` weighs one plane after another (document 01, refusals 9 and 10).
-use Prim.Native.Nat.{◌-◌}
 use Rattle.tables.proofs.Weighing.{before_first, before_four, before_need, before_small, before_refused, before_next, before_end}
 use Rattle.tables.proofs.codes_of.Goals as goal
 
@@ -17,4 +16,3 @@ loop-p-preserved c = search before_next
 
 pub returns : goal.returns
 returns c = search before_end
-

@@ -7,4 +7,3 @@ invariant-loop-p l = CodesBefore l.g l.lengths l.c l.planes l.p
 
 abbrev pub decreases-loop-p : goal.decreases-loop-p
 decreases-loop-p l = l.planes - l.p
-

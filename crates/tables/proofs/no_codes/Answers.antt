@@ -6,4 +6,3 @@ use Rattle.tables.proofs.no_codes.Goals as goal
 pub returns : goal.returns
 unfolding no_codes
 returns c = refl
-

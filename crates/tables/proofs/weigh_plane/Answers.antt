@@ -4,4 +4,3 @@ use Rattle.tables.proofs.weigh_plane.Goals as goal
 
 pub returns : goal.returns
 returns c = search weighed-part
-

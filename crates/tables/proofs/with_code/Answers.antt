@@ -6,4 +6,3 @@ use Rattle.tables.proofs.with_code.Goals as goal
 pub returns : goal.returns
 unfolding with_code
 returns c = refl
-

@@ -1,14 +1,14 @@
-//! Links the archive, and stops where there is none.
+//! Links the archive `libmagicyuv.a`, and stops where there is none.
 //!
-//! The archive comes from `rt lib` in crates/magicyuv_c. Its place is
-//! `../crates/magicyuv_c/out/libmagicyuv_c.a`, or the file that MAGICYUV_ARCHIVE names, libNAME.a;
-//! the word `none` there asks for the model even when an archive exists.
+//! The archive comes from `tools/archive.sh` at the repository's root. Its place is
+//! `../target/staticlib/libmagicyuv.a`, or the file that MAGICYUV_ARCHIVE names; the word `none`
+//! there asks for the model even when an archive exists.
 
 use std::path::{Path, PathBuf};
 
 fn default_place() -> PathBuf {
     let here = std::env::var("CARGO_MANIFEST_DIR").expect("cargo names the package's folder");
-    Path::new(&here).join("../crates/magicyuv_c/out/libmagicyuv_c.a")
+    Path::new(&here).join("../target/staticlib/libmagicyuv.a")
 }
 
 /// Ends the build with a message and nothing around it.
@@ -34,11 +34,7 @@ fn chosen() -> Option<PathBuf> {
 fn link(archive: &Path) {
     let folder = archive.parent().expect("a file has a folder");
     println!("cargo:rustc-link-search=native={}", folder.display());
-    let stem = archive.file_stem().and_then(|it| it.to_str());
-    let Some(name) = stem.and_then(|it| it.strip_prefix("lib")) else {
-        stop(&format!("{} is not a file libNAME.a", archive.display()))
-    };
-    println!("cargo:rustc-link-lib=static={name}");
+    println!("cargo:rustc-link-lib=static=magicyuv");
     println!("cargo:rustc-cfg=archive");
 }
 
@@ -51,7 +47,7 @@ fn main() {
     // A host that quietly decoded with something else than the proved core would be the worst of answers.
     if !place.is_file() {
         stop(&format!(
-            "no archive at {}: run `rt lib` in crates/magicyuv_c, or set \
+            "no archive at {}: run `tools/archive.sh` at the repository's root, or set \
              MAGICYUV_ARCHIVE=none to try the programs on the model",
             place.display()
         ));

@@ -1,6 +1,6 @@
 //! Digitsaucer's host crate: a safe wrapper over the proved decoding core of a MagicYUV v7 decoder.
 //!
-//! The core is the archive `libmagicyuv_c.a`, written and proved in Rattle. It takes a frame, a
+//! The core is the archive `libmagicyuv.a`, written and proved in Rattle. It takes a frame, a
 //! geometry record, code lengths, a plane buffer and a workspace, and answers planes or one numbered
 //! refusal with its place; document 01 has the rules. This crate has, in the order in which a frame
 //! flows:

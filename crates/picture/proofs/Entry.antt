@@ -13,7 +13,7 @@ use Rattle.scope.specs.Geometry as geo
 use Rattle.scope.specs.Geometry.{correlated, plane_count, slice_count, all_samples, lengths_of, swapped}
 use Rattle.scope.specs.Layout as lay
 use Rattle.scope.specs.Layout.{plane_index, place_in_plane, payload_of, samples_in}
-use Rattle.scope.specs.Words.{longest, shortest, need, word_at}
+use Rattle.scope.specs.Words.{longest, word_at}
 use Rattle.scope.specs.Lookup.{table_of, lookup_in}
 use Rattle.scope.specs.Frame as frm
 use Rattle.scope.specs.Pieces as pcs

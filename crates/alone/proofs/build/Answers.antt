@@ -7,4 +7,3 @@ returns-in-Refused c = search told_refused
 
 pub returns-in-Table : goal.returns-in-Table
 returns-in-Table c = search told_table
-

@@ -18,7 +18,6 @@ returns-in-Refused c = search build_refused
 pub returns-else-workspace-need : goal.returns-else-workspace-need
 returns-else-workspace-need c = search build_done
 
-
 pub build_part-requires-clause-lengths_len_bound : goal.build_part-requires-clause-lengths_len_bound
 build_part-requires-clause-lengths_len_bound c = (search rules, search part_small, search part_full)
 

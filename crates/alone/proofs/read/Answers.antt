@@ -13,4 +13,3 @@ returns-in-Refused c = search read_refused
 
 pub returns-in-Table : goal.returns-in-Table
 returns-in-Table c = search read_table
-

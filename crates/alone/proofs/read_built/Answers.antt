@@ -7,4 +7,3 @@ returns-in-End c = search read_end
 
 pub returns-in-Stuck : goal.returns-in-Stuck
 returns-in-Stuck c = search read_stuck
-

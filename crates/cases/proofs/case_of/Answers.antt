@@ -4,4 +4,3 @@ use Rattle.cases.proofs.case_of.Goals as goal
 
 pub returns-clause-case : goal.returns-clause-case
 returns-clause-case c = search case_is
-

@@ -10,4 +10,3 @@ invariant-loop-i l = (true ≡ agrees (held8 l.after) l.planes l.i) × (l.i ≤ 
 
 abbrev pub decreases-loop-i : goal.decreases-loop-i
 decreases-loop-i l = length l.planes - l.i
-

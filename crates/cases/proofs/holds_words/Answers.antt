@@ -1,7 +1,5 @@
 -- `cases::holds_words` meets its contract: the loop stops at the first word that is another. Assumes nothing.
 use Rattle.cases.proofs.Agreeing.{agreeing}
-use mathlib.Core.Path.{◌≡◌}
-use Prim.Native.Nat.{◌-◌, ◌≤◌}
 use Rattle.cases.proofs.holds_words.Goals as goal
 
 pub loop-i-init : goal.loop-i-init
@@ -12,4 +10,3 @@ returns-then-words-i c = search agreeing
 
 pub loop-i-preserved : goal.loop-i-preserved
 loop-i-preserved c = search agreeing
-

@@ -10,4 +10,3 @@ invariant-loop-i l = (true ≡ agrees (λ j. word_after l.number) l.words l.i) �
 
 abbrev pub decreases-loop-i : goal.decreases-loop-i
 decreases-loop-i l = length l.words - l.i
-

@@ -19,4 +19,3 @@ returns-then-not-words c = search verdicts
 
 pub returns : goal.returns
 returns c = search verdicts
-

@@ -1,7 +1,5 @@
 -- `cases::lend_u8` meets its contract: the loop gives each place what is lent there. Assumes nothing.
 use Rattle.cases.proofs.Placing.{placing}
-use Prim.Native.Nat.{◌-◌, ◌≤◌}
-use mathlib.Core.Path.{◌≡◌}
 use Rattle.cases.proofs.lend_u8.Goals as goal
 
 pub loop-i-init : goal.loop-i-init
@@ -12,4 +10,3 @@ loop-i-preserved c = search placing
 
 pub returns : goal.returns
 returns c = search placing
-

@@ -11,4 +11,3 @@ invariant-loop-i l = (l.flip ≡ flip_of l.number) × At (placed (lent8 l.after 
 
 abbrev pub decreases-loop-i : goal.decreases-loop-i
 decreases-loop-i l = length l.initial.planes - l.i
-

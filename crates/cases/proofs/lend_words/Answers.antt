@@ -1,6 +1,5 @@
 -- `cases::lend_words` meets its contract: the loop gives each place the one value. Assumes nothing.
 use Rattle.cases.proofs.Placing.{placing}
-use Prim.Native.Nat.{◌-◌}
 use Rattle.cases.proofs.lend_words.Goals as goal
 
 pub loop-i-init : goal.loop-i-init
@@ -11,4 +10,3 @@ loop-i-preserved c = search placing
 
 pub returns : goal.returns
 returns c = search placing
-

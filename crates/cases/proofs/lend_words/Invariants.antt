@@ -10,4 +10,3 @@ invariant-loop-i l = At (placed (λ j. lent_word)) l.initial.words l.words l.i
 
 abbrev pub decreases-loop-i : goal.decreases-loop-i
 decreases-loop-i l = length l.initial.words - l.i
-

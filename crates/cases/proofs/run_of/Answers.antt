@@ -7,4 +7,3 @@ returns-then-k-runs c = search runs
 
 pub returns : goal.returns
 returns c = search runs
-

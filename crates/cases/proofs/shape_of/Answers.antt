@@ -4,4 +4,3 @@ use Rattle.cases.proofs.shape_of.Goals as goal
 
 pub returns : goal.returns
 returns c = search shape_is
-

@@ -1,6 +1,4 @@
 -- `cases::spread` meets its contract: the loop gives each place the length of the run that it is in. Assumes nothing.
-use Prim.Native.Nat.{◌-◌, ◌≤◌}
-use mathlib.Core.Path.{◌≡◌}
 use Rattle.cases.proofs.Forms.{spreading}
 use Rattle.cases.proofs.spread.Goals as goal
 
@@ -12,4 +10,3 @@ loop-i-preserved c = search spreading
 
 pub returns : goal.returns
 returns c = search spreading
-

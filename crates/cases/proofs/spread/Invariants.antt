@@ -11,4 +11,3 @@ invariant-loop-i l = At (placed (length_at l.runs)) l.initial.lengths l.lengths 
 
 abbrev pub decreases-loop-i : goal.decreases-loop-i
 decreases-loop-i l = length l.initial.lengths - l.i
-

@@ -4,4 +4,3 @@ use Rattle.cases.proofs.stored_of.Goals as goal
 
 pub returns : goal.returns
 returns c = search stored_is
-

@@ -10,4 +10,3 @@ returns-then-number-lt5 c = search numbered
 
 pub returns : goal.returns
 returns c = search numbered
-

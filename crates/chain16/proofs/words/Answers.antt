@@ -1,5 +1,4 @@
 -- `chain16::words` meets its contract: words out of a kept window, and then one after the other (document 01, "Words and lookup"). Assumes nothing.
-use Prim.Native.Nat.{◌-◌, ◌^◌}
 use Rattle.reader.proofs.Reading.{reading}
 use Rattle.chain16.proofs.words.Goals as goal
 
@@ -17,4 +16,3 @@ loop-k-preserved c = search reading
 
 pub returns : goal.returns
 returns c = search reading
-

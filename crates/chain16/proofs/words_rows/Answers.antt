@@ -1,6 +1,5 @@
 -- `chain16::words_rows` meets its contract: row after row, each from where the last one ended (document 01, "Words and lookup"). Assumes
 -- nothing.
-use Prim.Native.Nat.{◌-◌, ◌^◌}
 use Rattle.reader.proofs.Rows.{rowing}
 use Rattle.chain16.proofs.words_rows.Goals as goal
 
@@ -21,4 +20,3 @@ loop-r-preserved c = search rowing
 
 pub returns-clause-words : goal.returns-clause-words
 returns-clause-words c = search rowing
-

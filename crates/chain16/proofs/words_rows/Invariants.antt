@@ -10,4 +10,3 @@ invariant-loop-r l = RowsRead (lookup_in l.table l.m l.payload) (2 ^ 16) l.width
 
 abbrev pub decreases-loop-r : goal.decreases-loop-r
 decreases-loop-r l = l.rows - l.r
-

@@ -10,4 +10,3 @@ invariant-loop-s l = Reading (table_look l.workspace l.codes) l.frame l.g l.t l.
 
 abbrev pub decreases-loop-s : goal.decreases-loop-s
 decreases-loop-s l = l.t - l.s
-

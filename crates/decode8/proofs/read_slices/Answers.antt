@@ -1,5 +1,4 @@
 use Rattle.picture.proofs.Filling.{readings, reading_start, reading_at, reading_own, reading_below, reading_placed, reading_step, reading_refused, reading_done, reading_planes}
-use Rattle.picture.proofs.Entry.{no_planes}
 use borrow.Author.Rules.{rules}
 use Rattle.decode8.proofs.read_slices.Goals as goal
 

@@ -7,4 +7,3 @@ returns-in-End c = search answers
 
 pub returns-in-Stuck : goal.returns-in-Stuck
 returns-in-Stuck c = search answers
-

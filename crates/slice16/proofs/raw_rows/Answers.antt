@@ -1,5 +1,4 @@
 -- `slice16::raw_rows` meets its contract: row after row of a raw slice (document 01, "Layout"). Assumes nothing.
-use Prim.Native.Nat.{◌-◌, ◌<◌, ◌≤◌}
 use Rattle.slice.proofs.Raw.{raw_rows}
 use Rattle.slice16.proofs.raw_rows.Goals as goal
 
@@ -14,4 +13,3 @@ loop-r-preserved c = search raw_rows
 
 pub returns-clause-samples : goal.returns-clause-samples
 returns-clause-samples c = search raw_rows
-

@@ -9,4 +9,3 @@ invariant-loop-r l = RawRows l.depth l.payload l.width l.pitch l.rows l.initial.
 
 abbrev pub decreases-loop-r : goal.decreases-loop-r
 decreases-loop-r l = l.rows - l.r
-

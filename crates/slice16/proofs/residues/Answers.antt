@@ -8,4 +8,3 @@ returns-then-a-clause-residues c = search residues
 
 pub returns-clause-residues : goal.returns-clause-residues
 returns-clause-residues c = search residues
-

@@ -1,6 +1,4 @@
 -- `slice8::raw_rows` meets its contract: row after row of a raw slice (document 01, "Layout"). Assumes nothing.
-use mathlib.Core.Path.{◌≡◌}
-use Prim.Native.Nat.{◌-◌}
 use Rattle.slice.proofs.Raw.{raw_rows}
 use Rattle.slice8.proofs.raw_rows.Goals as goal
 
@@ -12,4 +10,3 @@ loop-r-preserved c = search raw_rows
 
 pub returns-clause-samples : goal.returns-clause-samples
 returns-clause-samples c = search raw_rows
-

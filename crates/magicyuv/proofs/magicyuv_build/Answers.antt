@@ -4,4 +4,3 @@ use Rattle.magicyuv.proofs.magicyuv_build.Goals as goal
 
 pub reply_of-requires : goal.reply_of-requires
 reply_of-requires c = search (built_small, rules)
-

@@ -1,5 +1,5 @@
 -- The customer's three demands, in one file, of every function that a host can call: the frame entries `decode8` and `decode16`, a table by itself
--- (`build`), the lookup in it (`lookup`), a reading by itself (`read`), and the four that are exported. First what a call is, by name; then what is
+-- (`build`), the lookup in it (`lookup`), a reading by itself (`read`), and the four of magicyuv that are exported. First what a call is, by name; then what is
 -- demanded of a call; then the calls that each function's contract allows; last, `Demands`: all of them meet the demands, which
 -- proofs/Demand.antt proves (`demands`). A demand's own words stand between “ and ”, document 01's between quotation marks. What is named and
 -- not defined here is document 01, as crates/scope/specs has it. Assumes nothing.

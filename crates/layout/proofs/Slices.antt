@@ -1,5 +1,5 @@
 -- Document 01, "Layout" and refusal 8: the slices in wire order. Each names a plane below P with fewer than K before it, and so the
--- T = P-as-K of them are K of each plane. Assumes nothing.
+-- T = P·K of them are K of each plane. Assumes nothing.
 use mathlib.Core.Path.{◌≡◌, refl, sym, ◌∙◌}
 use mathlib.Core.List.{List, [], ◌∷◌}
 use Prim.Native.Nat.{ℕ, zero, suc, ◌+◌, ◌≤◌, ◌<◌}

@@ -1,1 +1,2 @@
-mod Once
+pub mod Once
+pub mod Same

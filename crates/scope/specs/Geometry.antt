@@ -72,7 +72,7 @@ module _ (g : Geometry) where
   abbrev pub slices_per_plane : ℕ
   slices_per_plane = over_up g.height g.slice_height
 
-  -- T = P-as-K
+  -- T = P·K
   abbrev pub slice_count : ℕ
   slice_count = plane_count * slices_per_plane
 

@@ -120,7 +120,7 @@ copies_slice0 = rules word_at samples_of slice0 swapped
 
 -- ---- "Using T.87's median at depth 8, or the clamp at 10."
 
--- the predictors with some median, and samples by them; with document 01's they are samplesOf's
+-- the predictors with some median, and samples by them; with document 01's they are samples_of's
 unfoldable pub predictor_by : (median : ℕ → ℕ → ℕ → ℕ → ℕ) (depth kind left top topleft : ℕ) → ℕ
 predictor_by median depth kind left top topleft =
     cond (eqb kind 1) left
@@ -176,7 +176,7 @@ unfilled_is0 = rules filled_at samples_of itself swapped
 
 -- ---- "With two fields, adding the row directly above."
 
--- Samples where rows after the first f add the row that is some rows up; where that is f, they are samplesOf's. Here it is 1.
+-- Samples where rows after the first f add the row that is some rows up; where that is f, they are samples_of's. Here it is 1.
 unfoldable pub by_rows_up : (up : ℕ → ℕ) (depth kind width f : ℕ) (residues : Samples) → Samples
 by_rows_up up depth kind width f residues =
     let rows : ℕ → ℕ = λ i. cond (ltb i (f * width)) f (up f) in

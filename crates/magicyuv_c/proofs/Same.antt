@@ -4,19 +4,15 @@
 use contract.Lifetimes.{Lfts}
 use borrow.Fn.World.{ArgsD, ResD}
 use denote.Triple.Clauses.{AtExit}
-use Rattle.magicyuv_c.specs.contracts.magicyuv_decode8 as decode8
 use Rattle.magicyuv_c.proofs.magicyuv_decode8.Reads as decode8_reads
 use Rattle.magicyuv.specs.contracts.magicyuv_decode8 as own_decode8
 use Rattle.magicyuv.proofs.magicyuv_decode8.Reads as own_decode8_reads
-use Rattle.magicyuv_c.specs.contracts.magicyuv_decode16 as decode16
 use Rattle.magicyuv_c.proofs.magicyuv_decode16.Reads as decode16_reads
 use Rattle.magicyuv.specs.contracts.magicyuv_decode16 as own_decode16
 use Rattle.magicyuv.proofs.magicyuv_decode16.Reads as own_decode16_reads
-use Rattle.magicyuv_c.specs.contracts.magicyuv_build as build
 use Rattle.magicyuv_c.proofs.magicyuv_build.Reads as build_reads
 use Rattle.magicyuv.specs.contracts.magicyuv_build as own_build
 use Rattle.magicyuv.proofs.magicyuv_build.Reads as own_build_reads
-use Rattle.magicyuv_c.specs.contracts.magicyuv_read as read
 use Rattle.magicyuv_c.proofs.magicyuv_read.Reads as read_reads
 use Rattle.magicyuv.specs.contracts.magicyuv_read as own_read
 use Rattle.magicyuv.proofs.magicyuv_read.Reads as own_read_reads

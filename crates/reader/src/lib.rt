@@ -1,7 +1,6 @@
 // Document 01: "a thin reader that holds the payload stands over it": a struct with the payload slice and bit position, few functions
-// over covered ones; and one step of the coded loop over it ("takes every sample from that lookup"). The borrow checker covers no
-// function over a struct that holds a slice, so `over`, `word`, `past`, `position` and `next` are proved by hand. `next` has plain
-// parameters: whoever calls it is covered again. The loops at both widths (chain8, chain16) say by `Reached` where they ended.
+// over covered ones; and one step of the coded loop over it ("takes every sample from that lookup"). `next` has plain parameters, so that
+// the loops at both widths (chain8, chain16) hold no reader; they say by `Reached` where they ended.
 #![tactic(auto)]
 
 ghost use Rattle.std.specs.Prelude.{◌≡◌, ◌<◌, ◌^◌};

@@ -14,7 +14,7 @@
 - docs/RED.md's tables of edits of definitions have every edit of those crates; every line of tools/equal_changes.txt stands in the file that it names, with what
   is changed at the column that it names, under a comment with its reason.
 - The picture of the crates and the table of `requires` are what tools/picture.py and tools/statements.py make of the sources.
-Notes of a landing (docs/landings/) speak of their day, and docs/PORT.md of the older kit's names beside today's: of them only the paths are checked.
+Notes of a landing (docs/landings/) speak of their day, docs/PORT.md and docs/DESIGN-PASS.md of names of before beside today's: of them only the paths are checked.
 
 Usage, at the repository's root:
   python3 tools/docs.py    prints what is not so; status 1 if anything is not
@@ -243,7 +243,7 @@ def main():
     for page in pages():
         text = page.read_text()
         found = paths(page, text)
-        if "landings" not in page.parts and page.name != "PORT.md":
+        if "landings" not in page.parts and page.name not in ("PORT.md", "DESIGN-PASS.md"):
             found += files(text, there) + edits(text) + names(text, words) + standing(page, text) + commands(text) + numbers(text, today)
         if page.name == "README.md" and page.parent == ROOT:
             found += shown(text)

@@ -2,7 +2,7 @@
 """picture.py: the crates of crates.txt in layers, each crate with a few words.
 
 A crate stands on those that its line in crates.txt names, and its layer is one above the highest of them. Within a layer the order is that of
-crates.txt. Twins, NAME8 and NAME16, that stand in one layer have one entry. A crate that has no words here, or words without a crate, is an error.
+crates.txt. Crates NAME8 and NAME16 that stand in one layer have one entry. A crate that has no words here, or words without a crate, is an error.
 
 Usage, at the repository's root:
   python3 tools/picture.py            says whether docs/ARCHITECTURE.md has the picture as it is today; status 1 if not
@@ -22,6 +22,7 @@ WORDS = {
     "refusals": "laws of the table of refusals",
     "lists": "parts of lists, powers of two",
     "memory": "a workspace cleared, sums modulo 2^depth, the law of a loop in place",
+    "sample": "a sample of 8 or 16 bits, what is generic over it asks of it",
     "views": "rows of a pitch: samples and gaps",
     "bits": "windows of bits",
     "raw": "raw samples",
@@ -29,12 +30,9 @@ WORDS = {
     "words": "9, 10 and the need, from one pass over the lengths",
     "builder": "a table written",
     "lookup": "the word at a bit position",
-    "kept": "a window of 64 bits, the word that it begins with, laws of the loops over it",
-    "kept8": "words in groups, out of a kept window",
-    "kept16": "words in groups, out of a kept window",
+    "kept": "words in groups, out of a window of 64 bits that is kept",
     "reader": "the thin reader, one step of it, where a reading ended",
-    "chain8": "words one after the other, row by row",
-    "chain16": "words one after the other, row by row",
+    "chain": "words one after the other, row by row",
     "within": "two checks that never fire: every slice begins in its plane, a raw one has all its bytes",
     "geometry": "what a family and a depth say; laws of the figures",
     "sides": "sides of a plane, K and T, the rows of a place",
@@ -44,21 +42,15 @@ WORDS = {
     "preamble": "refusals 5 to 8",
     "checks": "12 to 14 of every slice; 5 to 14 in order",
     "planes": "laws of the planes in their buffer, the picture",
-    "buffer8": "the plane buffer cleared, G added",
-    "buffer16": "the plane buffer cleared, G added",
+    "buffer": "the plane buffer cleared, G added",
     "tables": "every plane's code, and its table in the workspace",
     "rows": "laws of one row",
     "rows8": "one row of a slice",
     "rows16": "one row of a slice",
-    "predict": "laws of the loop over rows",
-    "predict8": "a slice's samples from its residues",
-    "predict16": "a slice's samples from its residues",
-    "slice": "one slice over any lookup: its laws, and the answer at its end",
-    "slice8": "one slice read into its rows: 15, then 14",
-    "slice16": "one slice read into its rows: 15, then 14",
+    "predict": "a slice's samples from its residues",
+    "slice": "one slice, over any lookup, read into its rows: 15, then 14",
     "picture": "laws of the entries: planes filled slice by slice; where the lengths come in",
-    "decode8": "document 01's entry: checks, every slice into its place, memory left",
-    "decode16": "document 01's entry: checks, every slice into its place, memory left",
+    "decode": "document 01's two entries: checks, every slice into its place, memory left",
     "places": "the picture by row and column",
     "wrong": "document 01's wrong decoders against the statements",
     "demands": "the three demands, of every function that a host can call",
@@ -90,13 +82,13 @@ def layers(under):
 
 
 def entries(crates):
-    """A layer's entries, with twins as one."""
+    """A layer's entries, with the crates of the two widths as one."""
     found = []
     for crate in crates:
         if crate.endswith("16") and crate[:-2] + "8" in crates:
             continue
-        twin = crate[:-1] + "16"
-        names = f"{crate}, {twin}" if crate.endswith("8") and twin in crates else crate
+        wide = crate[:-1] + "16"
+        names = f"{crate}, {wide}" if crate.endswith("8") and wide in crates else crate
         found.append(f"{names} ({WORDS[crate]})")
     return found
 

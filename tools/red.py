@@ -177,13 +177,16 @@ def tables(said, only):
 
 
 def functions(path):
-    """Every function of a source: its name, whether it is public, its first and its last line."""
-    lines, found = path.read_text().splitlines(), []
+    """Every function of a source: its name, whether it is public, its first and its last line. The methods of an implementation of a trait are."""
+    lines, found, block = path.read_text().splitlines(), [], ""
     for n, line in enumerate(lines):
-        m = re.match(r"(pub )?(?:pub\(crate\) )?(?:extern \"C\" )?fn (\w+)", line)
-        if m:
-            end = next((k for k in range(n, len(lines)) if lines[k] == "}"), len(lines))
-            found.append((m.group(2), bool(m.group(1)), n, end))
+        m = re.match(r"( *)(pub )?(?:pub\(crate\) )?(?:extern \"C\" )?fn (\w+)", line)
+        if m and not block.startswith("trait "):
+            end = next((k for k in range(n, len(lines)) if lines[k] == m[1] + "}"), len(lines))
+            found.append((f"{m[3]} ({block})" if m[1] else m[3], bool(m[2]) or " for " in block, n, end))
+        elif line[:1].strip():
+            opened = re.match(r"(?:pub )?((?:trait|impl) .*\w) \{$", line)
+            block = opened[1] if opened else ""
     return found
 
 

@@ -64,13 +64,10 @@ def byte(path, at, value):
     return change(path, edit)
 
 
-def both(edit):
-    return [edit(f"crates/decode{n}/src/lib.rt", n) for n in (8, 16)]
-
-
 # The call that reads a slice into its place; the calls that clear the planes; the lines that set the planes first.
-WRITES_NOTHING = both(lambda file, n: cut(file, r"\bslice%d::slice\([^;]*?\n    \)" % n, "Answer::Done"))
-NO_CLEARING = both(lambda file, n: cut(file, r"\bbuffer%d::clear_planes\([^)]*\);" % n, ""))
+ENTRIES = "crates/decode/src/lib.rt"
+WRITES_NOTHING = [cut(ENTRIES, r"\bslice::read\((?:[^()]|\([^()]*\))*\)", "Ok(())")]
+NO_CLEARING = [cut(ENTRIES, r"\bbuffer::clear_planes\([^()]*\);", "")]
 HOLDS_THE_ANSWER = [
     swap("crates/cases/src/lib.rt", "after[i] ^ flip", "after[i]"),
     swap("crates/cases/src/lib.rt", "after[2 * i] ^ flip, after[2 * i + 1] ^ flip", "after[2 * i], after[2 * i + 1]"),

@@ -4,7 +4,8 @@
 Printed: for each crate its public functions, its functions in all, its edits, and its lines of code, specifications and proofs (blank
 lines and comments are not counted); the public functions without an `ensures`; the functions with a `requires`, each with those
 that call it; and the longest parameter list of a function that is not exported. Exported is what is `extern "C"`, and the function of
-the same name that it calls.
+the same name that it calls. A method that a public trait declares is a public function, called TRAIT::METHOD; one of an `impl` has the clauses
+of its trait and is called TRAIT::METHOD for TYPE; a method of a type alone is called TYPE::METHOD.
 
 Usage, at the repository's root (no file beside the clone is needed):
   python3 tools/statements.py            prints all of that; status 1 if a public function has no `ensures`
@@ -18,7 +19,8 @@ from pathlib import Path
 ROOT = Path(__file__).resolve().parent.parent
 PAGE = ROOT / "docs/EXCEPTIONS.md"
 BEGIN, END = "<!-- requires: python3 tools/statements.py --write -->", "<!-- end -->"
-HEAD = re.compile(r'^(pub |pub\(crate\) )?(extern "C" )?fn (\w+)', re.M)
+HEAD = re.compile(r'^( *)(pub |pub\(crate\) )?(extern "C" )?fn (\w+)', re.M)
+BLOCK = re.compile(r"^(pub )?(?:trait (\w+)|impl(?:<[^>]*>)? (?:(\w+) for )?(\w+)).*\{$", re.M)
 
 
 def crates():
@@ -43,18 +45,27 @@ def parameters(text):
 
 
 class Function:
-    """A function of a source: its name, how far it is seen, its parameters, its clauses and its body."""
+    """A function of a source: its name, the trait and the type of a method, how far it is seen, its parameters, its clauses and its body."""
 
-    def __init__(self, crate, text, match):
-        self.crate, self.name = crate, match.group(3)
-        self.public, self.exported = match.group(1) == "pub ", bool(match.group(2))
+    def __init__(self, crate, text, match, block=None):
+        self.crate, self.method = crate, match.group(4)
+        self.public, self.exported = match.group(2) == "pub ", bool(match.group(3))
+        self.trait, self.type = (block[2] or block[3], block[4]) if block else (None, None)
+        self.name = self.method
+        if block:
+            self.name = "::".join(filter(None, (self.trait or self.type, self.method)))
+            self.name = f"{self.name} for {self.type}" if self.trait and self.type else self.name
+            self.public = self.public or bool(block[1])
         opened = text.index("(", match.end())
         closed = closing(text, opened)
-        self.parameters = parameters(text[opened + 1 : closed])
-        body = re.compile(r"(^|[^{]*[\w\])>] )\{$", re.M).search(text, closed)
-        self.clauses = text[closed : body.start() if body else len(text)]
-        end = text.find("\n}\n", closed)
-        self.body = text[body.end() if body else closed : end if end > 0 else len(text)]
+        self.generics, self.list = text[match.end() : opened], text[opened + 1 : closed]
+        self.parameters = parameters(self.list)
+        end = text.find(f"\n{match.group(1)}}}\n", closed)
+        # a trait's method ends with its clauses, or has none: the first line that ends with `;`
+        declared = re.compile(r";$", re.M).search(text, closed) if block and not self.type else None
+        body = None if declared else re.compile(r"(^ *|[^{]*[\w\])>] )\{$", re.M).search(text, closed)
+        self.clauses = text[closed : (declared or body).start() if declared or body else len(text)]
+        self.body = "" if declared else text[body.end() if body else closed : end if end > 0 else len(text)]
 
     def full(self):
         return f"{self.crate}::{self.name}"
@@ -67,22 +78,31 @@ def sources(crate):
     return sorted((ROOT / "crates" / crate / "src").rglob("*.rt"))
 
 
-def functions():
+def of_text(crate, text):
+    """The functions of a source, those of its traits and implementations among them."""
     found = []
-    for crate in crates():
-        for path in sources(crate):
-            text = path.read_text()
-            found += [Function(crate, text, m) for m in HEAD.finditer(text)]
+    for m in HEAD.finditer(text):
+        blocks = [b for b in BLOCK.finditer(text, 0, m.start()) if "\n}\n" not in text[b.end() : m.start()]] if m.group(1) else [None]
+        if blocks:
+            found.append(Function(crate, text, m, blocks[-1]))
     return found
 
 
+def functions():
+    return [f for crate in crates() for path in sources(crate) for f in of_text(crate, path.read_text())]
+
+
 def callers(one, every):
-    """Those that call a function: by its crate's name, or by its own name in its crate or in a file that uses it."""
+    """Those that call a function: by its crate's name, or by its own name in its crate or in a file that uses it. A method is called on a value, or by
+    a type that a function is generic over."""
     found = []
     for f in every:
         own = f.crate == one.crate or uses(f.crate, one)
-        path = rf"\b{one.crate}::(?:\w+::)*{one.name}\("
-        name = rf"(?<![\w:])(?:crate::)?{one.name}\("
+        path = rf"\b{one.crate}::(?:\w+::)*{one.method}(?:::<[^>]*>)?\("
+        name = rf"(?<![\w:.])(?:crate::)?{one.method}(?:::<[^>]*>)?\("
+        if one.trait or one.type:
+            path, name = r"(?!)", rf"(?:\b[A-Z]\w*::|\.){one.method}\("
+            own = own and (f.generics or f.trait == one.trait)
         if f is not one and (re.search(path, f.body) or own and re.search(name, f.body)):
             found.append(f.full())
     return sorted(set(found), key=found.index)
@@ -97,7 +117,8 @@ def brought(text):
 
 
 def uses(crate, one):
-    return any(re.fullmatch(rf"{one.crate}::(?:\w+::)*{one.name}", b) for path in sources(crate) for b in brought(path.read_text()))
+    name = one.trait or one.type or one.method
+    return any(re.fullmatch(rf"{one.crate}::(?:\w+::)*{name}", b) for path in sources(crate) for b in brought(path.read_text()))
 
 
 def lines(crate, folder, ending):

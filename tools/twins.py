@@ -1,16 +1,15 @@
 #!/usr/bin/env python3
-"""twins.py: what differs only in the width of a sample stands twice, in twin crates NAME8 and NAME16 or twin files, and the 16-bit text is the
-8-bit text under the substitutions of tools/twins.txt, in their order. So a reader reads one.
+"""twins.py: what a host calls is two functions, one for each width of a sample, and stands in twin files: the 16-bit text is the 8-bit text
+under the substitutions of tools/twins.txt, in their order. So a reader reads one. What they call is generic over the width (crate sample).
 
-In tools/twins.txt a line `# crates NAME8 NAME16` or `# files PATH8 PATH16` begins a list (lists one after another share what follows them), and
-each line `8-bit text => 16-bit text` is one substitution; \\n stands for a line's end. Where the bound of the 16-bit width is a goal of its own, or its
-clause has a name of its own, those lines are substitutions too. Compared are src/, specs/ and proofs/. Must-fail edits are not: a telling edit need not
-stand at both widths.
+In tools/twins.txt a line `# files PATH8 PATH16` begins a list (lists one after another share what follows them), and each line
+`8-bit text => 16-bit text` is one substitution; \\n stands for a line's end. A path may be a folder. Must-fail edits are not compared: a telling edit
+need not stand at both widths.
 
 Usage, at the repository's root:
   python3 tools/twins.py            says which files are not what the substitutions give; status 1 if any is not
   python3 tools/twins.py write      writes every 16-bit file
-  python3 tools/twins.py write X    writes those of the list whose 8-bit name is X
+  python3 tools/twins.py write X    writes those of the list whose 8-bit path is X
 """
 import pathlib
 import sys
@@ -23,12 +22,11 @@ def lists():
     found, open_list = [], False
     for line in (ROOT / "tools/twins.txt").read_text().splitlines():
         words = line.split()
-        if line.startswith(("# crates ", "# files ")):
+        if line.startswith("# files "):
             if not open_list:
                 found.append(([], []))
                 open_list = True
-            prefix = "crates/" if words[1] == "crates" else ""
-            found[-1][0].append((prefix + words[2], prefix + words[3]))
+            found[-1][0].append((words[2], words[3]))
         elif " => " in line:
             open_list = False
             found[-1][1].append([side.replace("\\n", "\n") for side in line.split(" => ")])
@@ -38,7 +36,7 @@ def lists():
 def texts(path):
     """Every file at a path, but must-fail edits and what a build leaves, by its name there."""
     base = ROOT / path
-    files = [base] if base.is_file() else [p for p in base.rglob("*") if p.is_file() and p.relative_to(base).parts[0] not in ("must-fail", "out")]
+    files = [base] if base.is_file() else [p for p in base.rglob("*") if p.is_file()]
     return {"" if p == base else str(p.relative_to(base)): p.read_text() for p in files}
 
 
@@ -57,9 +55,10 @@ def main():
     wrong = []
     for pairs, substitutions in lists():
         for narrow, wide in pairs:
-            if only and only[0] not in (narrow, narrow.removeprefix("crates/")):
+            if only and only[0] != narrow:
                 continue
             want = made(narrow, substitutions)
+            wrong += [f"no {narrow}"] * (not want)
             if write:
                 for name, text in want.items():
                     path = ROOT / wide / name if name else ROOT / wide

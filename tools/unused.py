@@ -3,7 +3,7 @@
   imports    a name that a file imports and does not use;
   laws       a law of proofs/ or a definition of specs/ that nothing cites: its own file not outside its declaration, and no other file
              imports it (what a function's own folder in proofs/ proves is that function's proof, and a record's fields are its record's);
-  functions  a `pub` function that no other crate calls; the twin of one that is called counts as called (tools/twins.txt).
+  functions  a `pub` function that no other crate calls.
   ends       a name in tools/theorems.txt that nothing declares.
 The theorems of proofs/Once.antt are ends in themselves, and so is what tools/theorems.txt names, a name a line.
 
@@ -128,19 +128,13 @@ def laws(files, ends):
 
 def functions(files, ends):
     """Public functions that no other crate calls."""
-    twins = {}
-    for line in pathlib.Path("tools/twins.txt").read_text().splitlines():
-        if line.startswith("# crates "):
-            narrow, wide = line.split()[2:4]
-            twins |= {narrow: wide, wide: narrow}
     sources = [f for f in files if f.path.suffix == ".rt"]
     calls = {(c, f.crate) for f in sources for c in re.findall(r"\b(?:\w+::)+\w+", "\n".join(f.imports + f.code))}
     calls |= {(f"{p[2]}::{n.split(' as ')[0]}", f.crate) for f in sources for p in map(PATH.match, f.imports) if p for n in brought(p[3])}
     found = []
     for file in sources:
         for name in re.findall(r"(?m)^pub fn (\w+)", file.text):
-            crates = [file.crate, twins.get(file.crate, file.crate)]
-            called = any(re.fullmatch(rf"{crate}(::\w+)*::{name}", c) and by != crate for crate in crates for c, by in calls)
+            called = any(re.fullmatch(rf"{file.crate}(::\w+)*::{name}", c) and by != file.crate for c, by in calls)
             if not called and f"{file.crate}::{name}" not in ends:
                 found.append(f"{file.path}: pub fn {name}")
     return found

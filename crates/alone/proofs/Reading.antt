@@ -3,33 +3,29 @@ use mathlib.Core.Path.{◌≡◌, refl, sym, ap, ◌∙◌, subst, subst⁻¹}
 use Prim.Native.Nat.{ℕ, ◌^◌, ◌≤◌, ◌<◌}
 use native.Mathlib.Omega.{arith}
 use mathlib.Core.List.{List}
-use mathlib.Core.Bool.{true}
+use mathlib.Core.Bool.{true, false, true≢false}
 use lib.Dec.{leb}
 use lib.ListN.{length, take, drop, replicate}
 use lib.Seq.{take_at}
 use borrow.Author.Tests.{lt-ltb, le-ltb, le-leb}
 use Rattle.scope.specs.Base.{zeros}
+use Rattle.std.specs.Prelude.{Result, Ok, Err, is_err}
 use Rattle.scope.specs.Refusals.{◌and_then◌, left_by, left_alone}
 use Rattle.scope.specs.Words.{longest, need, word_at, Chain, symbols, stuck_at, chain_by, chain, symbols_of}
 use Rattle.scope.specs.Lookup.{table_of, lookup_in}
 use Rattle.scope.specs.Alone.{build_answer, workspace_built, read_answer, samples_read, workspace_read, ReadAlone}
-use Rattle.scope.specs.declared.Found.{Found}
-use Rattle.scope.specs.declared.Place.{Place}
+use Rattle.scope.specs.Found.{Found}
 use Rattle.scope.specs.declared.Place.TheVariants.{Plane, Nothing}
-use Rattle.scope.specs.declared.Answer.{Answer}
-use Rattle.scope.specs.declared.Answer.TheVariants.{Done, Refused}
+use Rattle.scope.specs.declared.Refusal.{Refusal}
+use Rattle.scope.specs.Answers.{Answer, done, refused}
 use Rattle.scope.specs.Pieces.{readable}
 use Rattle.scope.proofs.Table.{read_in_pieces}
 use Rattle.codes.proofs.Table.{table_length}
 use Rattle.codes.proofs.Lookup.{looks_take}
 use Rattle.codes.specs.Reading.{Readable}
-use Rattle.reader.specs.Reading.{WordsRead}
-use Rattle.reader.specs.declared.Reached.{Reached}
-use Rattle.reader.specs.declared.Reached.TheVariants.{End, Stuck}
+use Rattle.reader.specs.Reading.{WordsRead, Reached, reached_end, reached_stuck}
 use Rattle.reader.proofs.Chains.{end_chain, stuck_chain, code_readable, code_chain}
 use Rattle.alone.specs.Built.{BuiltTable, TableRead}
-use Rattle.alone.specs.declared.Built.{Built}
-use Rattle.alone.specs.declared.Built.TheVariants as built
 use Rattle.alone.proofs.Building.{Good, good, low, told_refused, told_table, told_longest}
 
 -- ---- `read_built`
@@ -37,21 +33,35 @@ use Rattle.alone.proofs.Building.{Good, good, low, told_refused, told_table, tol
 module _ (look : ℕ → Found) (workspace samples : List ℕ) (o : Reached) (out workspace' : List ℕ) (r : WordsRead look 0 (length samples) o out)
     (z : workspace' ≡ replicate (length workspace) 0) where
   -- every word is read
-  pub read_end : (e : ℕ) → o ≡ End e → TableRead look workspace samples Done workspace' out
+  read_end : (e : ℕ) → o ≡ reached_end e → TableRead look workspace samples done workspace' out
   unfolding readable symbols_of left_by
   read_end e f =
       let c : chain_by look 0 (length samples) ≡ symbols out =
       end_chain look 0 (length samples) out e (subst (λ (x : Reached). WordsRead look 0 (length samples) x out) f r) in
       record { answer = rw c refl; samples = rw c refl; workspace = z }
 
+  pub read_all : is_err o ≡ false → TableRead look workspace samples done workspace' out
+  read_all = go o refl
+    where
+      go : (x : Reached) → o ≡ x → is_err x ≡ false → TableRead look workspace samples done workspace' out
+      go (Ok e) f h = read_end e f
+      go (Err s) f h = absurd (true≢false h)
+
   -- one fails
-  pub read_stuck : (p : ℕ) → o ≡ Stuck p → (out' : List ℕ) → out' ≡ replicate (length out) 0 → length out ≡ length samples
-      → TableRead look workspace samples (Refused 14 (Plane 0)) workspace' out'
-  unfolding readable symbols_of left_by
-  read_stuck p f out' g l =
-      let c : chain_by look 0 (length samples) ≡ stuck_at p =
-      stuck_chain look 0 (length samples) out p (subst (λ (x : Reached). WordsRead look 0 (length samples) x out) f r) in
-      record { answer = rw c refl; samples = rw c (g ∙ ap (λ (n : ℕ). replicate n 0) l); workspace = z }
+  module _ (out' : List ℕ) (g : out' ≡ replicate (length out) 0) (l : length out ≡ length samples) where
+    read_at : (p : ℕ) → o ≡ reached_stuck p → TableRead look workspace samples (refused 14 (Plane 0)) workspace' out'
+    unfolding readable symbols_of left_by
+    read_at p f =
+        let c : chain_by look 0 (length samples) ≡ stuck_at p =
+        stuck_chain look 0 (length samples) out p (subst (λ (x : Reached). WordsRead look 0 (length samples) x out) f r) in
+        record { answer = rw c refl; samples = rw c (g ∙ ap (λ (n : ℕ). replicate n 0) l); workspace = z }
+
+    pub read_stuck : is_err o ≡ true → TableRead look workspace samples (refused 14 (Plane 0)) workspace' out'
+    read_stuck = go o refl
+      where
+        go : (x : Reached) → o ≡ x → is_err x ≡ true → TableRead look workspace samples (refused 14 (Plane 0)) workspace' out'
+        go (Ok e) f h = absurd (true≢false (sym h))
+        go (Err s) f h = read_at s.at f
 
 -- ---- from the start
 
@@ -63,14 +73,14 @@ cleared workspace (stuck_at p) = refl
 
 module _ (ls payload workspace samples : List ℕ) where
   -- too many samples
-  pub read_4 : 268435456 < length samples → ReadAlone ls payload workspace samples (Refused 4 Nothing) workspace samples
+  pub read_4 : 268435456 < length samples → ReadAlone ls payload workspace samples (refused 4 Nothing) workspace samples
   read_4 h = record {
     answer = sym e;
     samples = unfold samples_read left_by in (rw e refl);
     workspace = unfold workspace_read left_by in (rw e refl);
   }
     where
-      e : read_answer ls payload (length samples) (length workspace) ≡ Refused 4 Nothing
+      e : read_answer ls payload (length samples) (length workspace) ≡ refused 4 Nothing
       e = unfold read_answer in (simp (lt-ltb _ _ h))
 
   module _ (few : length samples ≤ 268435456) where
@@ -79,14 +89,14 @@ module _ (ls payload workspace samples : List ℕ) where
         → read_answer ls payload (length samples) (length workspace) ≡ r and_then readable 0 (chain ls payload 0 (length samples))
     after r e = read_in_pieces ls payload (length samples) (length workspace) ∙ simp (le-ltb _ _ few, e)
 
-    module _ (o : Built) (workspace₁ : List ℕ) (b : BuiltTable ls workspace o workspace₁) where
+    module _ (o : Result ℕ Refusal) (workspace₁ : List ℕ) (b : BuiltTable ls workspace o workspace₁) where
       -- no table is built
-      pub read_refused : (n : ℕ) (p : Place) → o ≡ built.Refused n p → ReadAlone ls payload workspace samples (Refused n p) workspace₁ samples
+      pub read_refused : (why : Refusal) → o ≡ Err why → ReadAlone ls payload workspace samples (Err why) workspace₁ samples
       unfolding samples_read workspace_read workspace_built left_by
-      read_refused n p f =
-          let e : build_answer ls (length workspace) ≡ Refused n p = sym (told_refused ls workspace o workspace₁ b n p f).answer in
-          let g : read_answer ls payload (length samples) (length workspace) ≡ Refused n p = after (Refused n p) e in
-          let t : leb n 11 ≡ true = le-leb _ _ (low ls (length workspace) n p e) in
+      read_refused why f =
+          let e : build_answer ls (length workspace) ≡ Err why = sym (told_refused ls workspace o workspace₁ b why f).answer in
+          let g : read_answer ls payload (length samples) (length workspace) ≡ Err why = after (Err why) e in
+          let t : leb why.0 11 ≡ true = le-leb _ _ (low ls (length workspace) why e) in
           record {
             answer = sym g;
             samples = rw g (simp t);
@@ -94,8 +104,8 @@ module _ (ls payload workspace samples : List ℕ) where
           }
 
       -- one is, and m is the longest length
-      module _ (m : ℕ) (d : o ≡ built.Table m) where
-        is_done : build_answer ls (length workspace) ≡ Done
+      module _ (m : ℕ) (d : o ≡ Ok m) where
+        is_done : build_answer ls (length workspace) ≡ done
         is_done = sym (told_table ls workspace o workspace₁ b m d).answer
 
         is_good : Good ls (length workspace)
@@ -137,4 +147,4 @@ module _ (ls payload workspace samples : List ℕ) where
         }
           where
             e : read_answer ls payload (length samples) (length workspace) ≡ readable 0 (chain ls payload 0 (length samples))
-            e = after Done is_done
+            e = after done is_done

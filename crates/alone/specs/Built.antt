@@ -1,24 +1,22 @@
 -- What building a table by itself gives a reading, and what a reading by a table answers and leaves (document 01, "Words and
 -- lookup"). Assumes nothing.
-use Rattle.std.specs.Prelude.{◌≡◌, ℕ, List, length}
+use Rattle.std.specs.Prelude.{◌≡◌, ℕ, List, length, Result, Ok, Err}
 use Rattle.scope.specs.Base.{zeros}
 use Rattle.scope.specs.Refusals.{left_alone}
 use Rattle.scope.specs.Words.{longest, chain_by, symbols_of}
 use Rattle.scope.specs.Alone.{build_answer, workspace_built}
-use Rattle.scope.specs.declared.Found.{Found}
-use Rattle.scope.specs.declared.Answer.{Answer}
-use Rattle.scope.specs.declared.Answer.TheVariants as answer
+use Rattle.scope.specs.Found.{Found}
+use Rattle.scope.specs.Answers.{Answer}
+use Rattle.scope.specs.declared.Refusal.{Refusal}
 use Rattle.scope.specs.Pieces.{readable}
-use Rattle.alone.specs.declared.Built.{Built}
-use Rattle.alone.specs.declared.Built.TheVariants.{Table, Refused}
 
 -- an answer, with the longest length m beside success
-unfoldable pub built_by : Answer → ℕ → Built
-built_by answer.Done m = Table m
-built_by (answer.Refused n p) m = Refused n p
+unfoldable pub built_by : Answer → ℕ → Result ℕ Refusal
+built_by (Ok _) m = Ok m
+built_by (Err why) m = Err why
 
 -- the answer of a table built by itself, with the longest length, and the workspace
-pub record BuiltTable (ls workspace₀ : List ℕ) (r : Built) (workspace₁ : List ℕ) : Type 0 where
+pub record BuiltTable (ls workspace₀ : List ℕ) (r : Result ℕ Refusal) (workspace₁ : List ℕ) : Type 0 where
   pub answer : r ≡ built_by (build_answer ls (length workspace₀)) (longest ls)
   pub workspace : workspace₁ ≡ workspace_built ls workspace₀
 

@@ -9,48 +9,31 @@ ghost use Rattle.alone.specs.Built.{BuiltTable, TableRead};
 
 use builder::build_part;
 use memory::clear_u32;
-use reader::Reached;
-use scope::{Answer, Place};
-use words::{Weighed, weigh};
+use scope::{Answer, Place, Refusal};
+use words::weigh;
 
-// What building gives: the longest length, which a reading needs beside the table; or a refusal with its number and place.
-#[derive(Clone, Copy)]
-pub(crate) enum Built {
-    Table(usize),
-    Refused(u32, Place),
-}
-
-// The table in the first words of the workspace; its plane is called plane 0. The lengths are scanned once for the checks.
-pub(crate) fn build_table(lengths: &[u8], workspace: &mut [u32]) -> Built
+// The table in the first words of the workspace; its plane is called plane 0. The lengths are scanned once for the checks. The answer is
+// the longest length, which a reading needs beside the table.
+pub(crate) fn build_table(lengths: &[u8], workspace: &mut [u32]) -> Result<usize, Refusal>
     ensures { BuiltTable lengths.now workspace.old result workspace.new }
 {
     if 16384 < lengths.len() {
-        return Built::Refused(4, Place::Nothing);
+        return Err(Refusal(4, Place::Nothing));
     }
-    match weigh(lengths, 0) {
-        Weighed::Refused(n, place) => Built::Refused(n, place),
-        Weighed::Code {
-            longest,
-            shortest: _,
-            need,
-        } => {
-            if workspace.len() < need {
-                return Built::Refused(11, Place::Nothing);
-            }
-            build_part(lengths, longest, workspace, 0, need);
-            Built::Table(longest)
-        }
+    let code = weigh(lengths, 0)?;
+    if workspace.len() < code.need {
+        return Err(Refusal(11, Place::Nothing));
     }
+    build_part(lengths, code.longest, workspace, 0, code.need);
+    Ok(code.longest)
 }
 
 // A table built by itself.
 pub fn build(lengths: &[u8], workspace: &mut [u32]) -> Answer
     ensures { BuiltAlone lengths.now workspace.old result workspace.new }
 {
-    match build_table(lengths, workspace) {
-        Built::Refused(n, place) => Answer::Refused(n, place),
-        Built::Table(_) => Answer::Done,
-    }
+    build_table(lengths, workspace)?;
+    Ok(())
 }
 
 // Reads the samples by a table in the workspace, m being its code's longest length, and clears the workspace; the samples too where
@@ -64,15 +47,13 @@ pub(crate) fn read_built(
     requires { Readable (lookup_in workspace.old m payload.now) (2 ^ 16) 0 (length samples.old) }
     ensures { TableRead (lookup_in workspace.old m payload.now) workspace.old samples.old result workspace.new samples.new }
 {
-    let reached = chain16::words(workspace, m, payload, 0, samples);
+    let reached = chain::words(workspace, m, payload, 0, samples);
     clear_u32(workspace);
-    match reached {
-        Reached::End(end) => Answer::Done,
-        Reached::Stuck(at) => {
-            buffer16::clear(samples);
-            Answer::Refused(14, Place::Plane(0))
-        }
+    if reached.is_err() {
+        buffer::clear(samples);
+        return Err(Refusal(14, Place::Plane(0)));
     }
+    Ok(())
 }
 
 // A reading by itself: as many samples as the buffer has places.
@@ -80,10 +61,8 @@ pub fn read(lengths: &[u8], payload: &[u8], workspace: &mut [u32], samples: &mut
     ensures { ReadAlone lengths.now payload.now workspace.old samples.old result workspace.new samples.new }
 {
     if 268435456 < samples.len() {
-        return Answer::Refused(4, Place::Nothing);
+        return Err(Refusal(4, Place::Nothing));
     }
-    match build_table(lengths, workspace) {
-        Built::Refused(n, place) => Answer::Refused(n, place),
-        Built::Table(m) => read_built(workspace, m, payload, samples),
-    }
+    let m = build_table(lengths, workspace)?;
+    read_built(workspace, m, payload, samples)
 }

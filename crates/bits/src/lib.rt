@@ -4,30 +4,18 @@
 ghost use Rattle.std.specs.Prelude.{◌≡◌, ◌+◌, ◌*◌, ◌/◌, ◌<◌, ◌≤◌, ◌^◌, length, get_or};
 ghost use Rattle.scope.specs.Bits.{window};
 
-// A cast of an element asks that the element fits; a call asks only for the index.
-fn wide(x: u8) -> u32
-    ensures { (result ≡ x) × (result < 256) }
-{
-    x as u32
-}
-
 // The byte at i, and 0 past the end.
-fn byte(payload: &[u8], i: usize) -> u32
-    ensures { (result ≡ get_or payload.now i 0) × (result < 256) }
+fn byte(payload: &[u8], i: usize) -> u8
+    ensures { result ≡ get_or payload.now i 0 }
 {
-    if i < payload.len() {
-        return wide(payload[i]);
-    }
-    0
+    payload.get(i).copied().unwrap_or(0)
 }
 
-// Four bytes as one number, the first one highest. So written it compiles to one load and a byte swap where the four are elements
-// that stand side by side.
-fn joined(a: u32, b: u32, c: u32, d: u32) -> u32
-    requires { (a < 256) × (b < 256) × (c < 256) × (d < 256) }
+// Four bytes as one number, the first one highest.
+fn joined(a: u8, b: u8, c: u8, d: u8) -> u32
     ensures { result ≡ ((a * 256 + b) * 256 + c) * 256 + d }
 {
-    ((a * 256 + b) * 256 + c) * 256 + d
+    u32::from_be_bytes([a, b, c, d])
 }
 
 // The 32 bits from byte i on. Where all four bytes are in the payload they are read without a test each.
@@ -36,12 +24,7 @@ fn four(payload: &[u8], i: usize) -> u32
     ensures { result ≡ window payload.now (i * 8) 32 }
 {
     if i + 4 <= payload.len() {
-        return joined(
-            wide(payload[i]),
-            wide(payload[i + 1]),
-            wide(payload[i + 2]),
-            wide(payload[i + 3]),
-        );
+        return joined(payload[i], payload[i + 1], payload[i + 2], payload[i + 3]);
     }
     joined(
         byte(payload, i),
@@ -57,19 +40,9 @@ pub fn eight(payload: &[u8], i: usize) -> u64
     requires { i + 8 ≤ length payload.now }
     ensures { result ≡ window payload.now (i * 8) 64 }
 {
-    let high = joined(
-        wide(payload[i]),
-        wide(payload[i + 1]),
-        wide(payload[i + 2]),
-        wide(payload[i + 3]),
-    );
+    let high = joined(payload[i], payload[i + 1], payload[i + 2], payload[i + 3]);
     let j = i + 4;
-    let low = joined(
-        wide(payload[j]),
-        wide(payload[j + 1]),
-        wide(payload[j + 2]),
-        wide(payload[j + 3]),
-    );
+    let low = joined(payload[j], payload[j + 1], payload[j + 2], payload[j + 3]);
     (high as u64) * 4294967296 + low as u64
 }
 

@@ -1,31 +1,59 @@
--- The loop that writes one value into a stretch, and the two choices of a word's slots (document 01, "Words and lookup").
+-- One value in a stretch, and the two choices of a word's slots (document 01, "Words and lookup").
 -- Assumes nothing.
-use mathlib.Core.Path.{◌≡◌, refl, ◌∙◌}
-use Prim.Native.Nat.{ℕ, ◌+◌, ◌≤◌, ◌<◌, min}
-use native.Mathlib.Decide.{ℕ_discrete}
+use mathlib.Core.Path.{◌≡◌, refl, sym, ap, ◌∙◌}
+use Prim.Native.Nat.{ℕ, ◌+◌, ◌-◌, ◌≤◌, ◌<◌, min}
 use native.Mathlib.Omega.{arith}
-use mathlib.Core.List.{List}
-use lib.ListN.{length, get_or, set}
-use lib.Seq.{get_or-set_same, get_or-set_other}
+use mathlib.Core.List.{List, ◌++◌}
+use borrow.Rule.Slice.PartMut.{put_mid}
+use lib.ListN.{length, get_or, take, drop, replicate, length-append, length-drop, length-replicate, get_or-replicate, get_or-eq_default}
+use lib.Seq.{length-take-le, get_or-take, get_or-drop}
+use Rattle.std.proofs.lemmas.List.{get_or_append_left, get_or-append_right}
 use borrow.Author.Tests.{le-leb, lt-leb}
 use Rattle.builder.specs.Slots.{slot_bits, slot_base, StretchWritten}
 
--- before the first turn
-pub filled_none : (ws : List ℕ) (from e : ℕ) → StretchWritten ws from 0 e ws
-filled_none ws from e = record { inside = λ i h g. absurd (omega arith); before = λ i h. refl; behind = λ i h. refl }
+-- a part, filled
+pub filled_part : (ws : List ℕ) (from n e : ℕ) (ys : List ℕ) → from + n ≤ length ws
+    → ys ≡ replicate (length (take (from + n - from) (drop from ws))) e → StretchWritten ws from n e (put_mid from (from + n - from) ws ys)
+filled_part ws from n e ys h w =
+    let k : from + n - from ≡ n = omega arith in
+    let len : length (take n (drop from ws)) ≡ n = length-take-le n (drop from ws) (rw length-drop (omega arith)) in
+    let f : length (take from ws) ≡ from = length-take-le from ws (omega arith) in
+    let filled : ys ≡ replicate n e = w ∙ rw (k, len) refl in
+    rw (k, filled)
+    record {
+      inside = λ i a b.
+          get_or-append_right (take from ws) _ from i 0 f a
+          ∙ get_or_append_left (replicate n e) _ 0 (i - from) (rw (length-replicate n e) (omega arith))
+          ∙ get_or-replicate n (i - from) e 0 (omega arith);
+      before = λ i a. get_or_append_left (take from ws) _ 0 i (rw f a) ∙ get_or-take from ws i 0 a;
+      behind = λ i a.
+          get_or-append_right (take from ws) _ from i 0 f (omega arith)
+          ∙ get_or-append_right (replicate n e) _ n (i - from) 0 (length-replicate n e) (omega arith)
+          ∙ get_or-drop n (drop from ws) (i - from - n) 0
+          ∙ get_or-drop from ws (n + (i - from - n)) 0
+          ∙ ap (λ (j : ℕ). get_or ws j 0) (omega arith);
+    }
 
--- one turn
-pub filled_more : (ws : List ℕ) (from k e : ℕ) (ws' : List ℕ) → from + k < length ws' → StretchWritten ws from k e ws'
-    → StretchWritten ws from (k + 1) e (set ws' (from + k) e)
-filled_more ws from k e ws' b f = record {
-  inside = λ i h g. inside i h g (ℕ_discrete i (from + k));
-  before = λ i h. get_or-set_other ws' (from + k) i e 0 (omega arith) ∙ f.before i h;
-  behind = λ i h. get_or-set_other ws' (from + k) i e 0 (omega arith) ∙ f.behind i (omega arith);
+-- a front, filled
+pub filled_front : (ws : List ℕ) (n e : ℕ) (ys : List ℕ) → n ≤ length ws → ys ≡ replicate (length (take n ws)) e
+    → StretchWritten ws 0 n e (ys ++ drop n ws)
+filled_front ws n e ys h w =
+    let k : 0 + n - 0 ≡ n = omega arith in
+    rw k at (filled_part ws 0 n e ys (omega arith) (rw k w))
+
+-- which keeps the length
+pub front_length : (ws : List ℕ) (n : ℕ) (ys : List ℕ) → n ≤ length ws → length ys ≡ length (take n ws) → length (ys ++ drop n ws) ≡ length ws
+front_length ws n ys h e = simp (length-append, length-drop, e, length-take-le n ws h) (omega arith)
+
+-- all of it, filled
+pub filled_all : (ws : List ℕ) (e : ℕ) (ys : List ℕ) → ys ≡ replicate (length ws) e → StretchWritten ws 0 (length ws) e ys
+filled_all ws e ys w = record {
+  inside = λ i a b. rw w (get_or-replicate (length ws) i e 0 (omega arith));
+  before = λ i a. absurd (omega arith);
+  behind = λ i a.
+      let l : length ys ≡ length ws = rw (w, length-replicate (length ws) e) refl in
+      get_or-eq_default ys 0 {n = i} (omega arith) ∙ sym (get_or-eq_default ws 0 {n = i} (omega arith));
 }
-  where
-    inside : (i : ℕ) → from ≤ i → i < from + (k + 1) → Dec (i ≡ from + k) → get_or (set ws' (from + k) e) i 0 ≡ e
-    inside i h g (yes q) = rw q (get_or-set_same ws' (from + k) e 0 b)
-    inside i h g (no q) = get_or-set_other ws' (from + k) i e 0 q ∙ f.inside i h (omega arith)
 
 -- words of up to 12 bits stand in the first part
 pub bits_first : (m l : ℕ) → l ≤ 12 → slot_bits m l ≡ min m 12

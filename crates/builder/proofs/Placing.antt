@@ -1,13 +1,13 @@
 -- The loop that places the symbols' words, one pass over the lengths (document 01, "Words and lookup": "given to symbols in ascending
 -- order"). Assumes nothing.
-use mathlib.Core.Path.{◌≡◌, refl, sym, ap, ap₂, ◌∙◌, subst, subst₂}
+use mathlib.Core.Path.{◌≡◌, sym, ap, ap₂, ◌∙◌, subst₂}
 use Prim.Native.Nat.{ℕ, suc, ◌+◌, ◌-◌, ◌*◌, ◌/◌, ◌%◌, ◌^◌, ◌≤◌, ◌<◌, min}
 use native.Mathlib.Nat.{zero-add, mul-le-mul_left}
 use native.Mathlib.Numerals.{add-one}
 use native.Mathlib.Decide.{ℕ_discrete, dec_le, dec_lt}
 use native.Mathlib.Omega.{arith}
 use mathlib.Core.List.{List}
-use mir.Syntax.{w32, w64}
+use mir.Syntax.{w32}
 use mir.Val.{Fits}
 use lib.Dec.{eqb}
 use lib.Pow.{pow_pos}
@@ -40,13 +40,6 @@ module _ (m l s w n : ℕ) (r : WordSlots m l s w n) (k b : ℕ) (ek : k ≡ slo
   -- they lie within the part that is lent
   pub put_room : b + w * (1 * 2 ^ (k - l) % 2 ^ 64) + 1 * 2 ^ (k - l) % 2 ^ 64 ≤ n
   put_room = rw (from_is, size_is) r.inside
-
-  -- so the numbers are small
-  pub put_product : Fits w64 (w * (1 * 2 ^ (k - l) % 2 ^ 64))
-  put_product = record { fits = omega (arith, put_room, r.room) }
-
-  pub put_start : Fits w64 (b + w * (1 * 2 ^ (k - l) % 2 ^ 64))
-  put_start = record { fits = omega (arith, put_room, r.room) }
 
   -- what is written
   pub put_written : (ws ws' : List ℕ)
@@ -118,16 +111,9 @@ module _ (ls : List ℕ) (m : ℕ) (ws next : List ℕ) (s : ℕ) (p : WordsPlac
   length_small : length_of ls s ≤ 18
   length_small = omega (arith, at_most_longest ls s, p.ready.small)
 
-  -- so each fits
-  pub length_fits : Fits w64 (length_of ls s)
-  length_fits = record { fits = omega (arith, length_small) }
-
   -- and has a place among the next words
   pub length_below : length_of ls s < 19
   length_below = omega (arith, length_small)
-
-  pub length_offset : Fits w64 (length_of ls s * 4)
-  length_offset = record { fits = omega (arith, length_small) }
 
   -- a symbol with no word
   pub placed_skip : length_of ls s ≡ 0 → WordsPlaced ls m ws next (s + 1)
@@ -237,24 +223,6 @@ module _ (ls : List ℕ) (m : ℕ) (ws next : List ℕ) (s : ℕ) (p : WordsPlac
               get_or-set_other next (length_of ls s) l (get_or next (length_of ls s) 0 + 1) 0 e
               ∙ omega (arith, p.words l a c, one_other (length_of ls s) l (λ (q : length_of ls s ≡ l). e (sym q)))
 
--- ---- `place_symbol`
-
-module _ (m l s w : ℕ) (ws : List ℕ) where
-  -- no word
-  pub put_none : l ≡ 0 → SymbolPut m l s w ws w ws
-  put_none e = record { none = λ _. (refl, refl); next = λ z. absurd (z e); written = λ z. absurd (z e) }
-
-  -- a word
-  pub put_some : (ws' : List ℕ) → (l ≡ 0 → ⊥) → StretchWritten ws (slot_base l + w * 2 ^ (slot_bits m l - l)) (2 ^ (slot_bits m l - l)) (s * 256 + l) ws' → SymbolPut m l s w ws (w + 1) ws'
-  put_some ws' z f = record { none = λ e. absurd (z e); next = λ _. refl; written = λ _. f }
-
-  module _ (n : ℕ) (a : SymbolAsked m l s w n) (z : l ≡ 0 → ⊥) where
-    pub asked_slots : WordSlots m l s w n
-    asked_slots = a.slots z
-
-    pub asked_more : Fits w32 (w + 1)
-    asked_more = record { fits = a.more z }
-
 -- ---- a turn of `place`
 
 module _ (ls : List ℕ) (m : ℕ) (ws next : List ℕ) (s : ℕ) (p : WordsPlaced ls m ws next s) (in-ls : s < length ls) where
@@ -272,9 +240,3 @@ module _ (ls : List ℕ) (m : ℕ) (ws next : List ℕ) (s : ℕ) (p : WordsPlac
           let same : set next (length_of ls s) r ≡ next = ap (set next (length_of ls s)) (f.none e).0 ∙ set-get_or next (length_of ls s) 0 in
           rw (same, (f.none e).1) (placed_skip ls m ws next s p in-ls e)
       go (no z) = rw (f.next z) (placed_put ls m ws next s p in-ls z ws' (f.written z) len)
-
--- after all symbols
-pub placed_end : (ls : List ℕ) (m : ℕ) (ws next : List ℕ) (s : ℕ) → WordsPlaced ls m ws next s → length ls ≤ s → Slotted ls ws (length ls)
-placed_end ls m ws next s p h =
-    let e : s ≡ length ls = omega (arith, p.within) in
-    subst (λ (x : ℕ). Slotted ls ws x) e p.slotted

@@ -10,7 +10,6 @@ use lib.ListN.{length, get_or}
 use lib.Seq.{ext_get_or}
 use Rattle.scope.specs.Words.{longest, head_below, heads, first}
 use Rattle.scope.specs.Lookup.{packed, word_in, first_part, table_of}
-use Rattle.lists.specs.Parts.{replaced}
 use Rattle.codes.proofs.Heads.{none_at_longest, first_head, no_head, no_head_short, first_small}
 use Rattle.codes.proofs.Table.{need_short, need_long, table_length, table_short, table_first, table_second}
 use Rattle.words.specs.Weigh.{firsts_of}
@@ -75,16 +74,10 @@ module _ (ls : List ℕ) (m n : ℕ) (ok : Buildable ls m n) where
 
 module _ (ls : List ℕ) (m : ℕ) (ws firsts ws₁ : List ℕ) (ok : Buildable ls m (length ws)) (ef : firsts ≡ firsts_of ls) (same : length ws₁ ≡ length ws) where
   -- there is room for the marks
-  pub marks_room : 0 + get_or firsts 12 0 ≤ length ws₁
+  pub marks_room : get_or firsts 12 0 ≤ length ws₁
   marks_room = omega (arith, firsts_twelve ls firsts ef, heads-room ls m (length ws) ok, same)
 
   -- the table is written
   pub written : Slotted ls ws₁ (length ls) → (ws₂ : List ℕ) → StretchWritten ws₁ 0 (get_or firsts 12 0) 255 ws₂ → length ws₂ ≡ length ws₁
       → ws₂ ≡ table_of ls
   written p ws₂ f l = whole ls m (length ws) ok (get_or firsts 12 0) ws₁ ws₂ (firsts_twelve ls firsts ef) f p (l ∙ same)
-
--- ---- `build_part`
-
--- what is left of the whole
-pub part_written : (ls workspace ws' : List ℕ) (from n : ℕ) → ws' ≡ table_of ls → replaced workspace from n ws' ≡ replaced workspace from n (table_of ls)
-part_written ls workspace ws' from n e = ap (replaced workspace from n) e

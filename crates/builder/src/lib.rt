@@ -3,7 +3,7 @@
 // lengths are counted, one pass over them writes each word into the slots that begin with it.
 #![tactic(auto)]
 
-ghost use Rattle.std.specs.Prelude.{◌≡◌, ◌+◌, ◌*◌, ◌-◌, ◌^◌, ◌≤◌, ◌<◌, length};
+ghost use Rattle.std.specs.Prelude.{◌≡◌, ◌+◌, ◌*◌, ◌-◌, ◌^◌, ◌≤◌, length};
 ghost use Rattle.scope.specs.Words.{longest, shares, need};
 ghost use Rattle.scope.specs.Lookup.{table_of};
 ghost use Rattle.lists.specs.Parts.{replaced};
@@ -12,40 +12,18 @@ ghost use Rattle.builder.specs.Slots.{slot_bits, slot_base, StretchWritten, Word
 
 use words::firsts;
 
-// Writes e into n words of ws, from `from` on.
-pub(crate) fn fill(ws: &mut [u32], from: usize, n: usize, e: u32)
-    requires { from + n ≤ length ws.old }
-    ensures { StretchWritten ws.old from n e ws.new }
-{
-    let mut k: usize = 0;
-    while k < n {
-        let i = from + k;
-        ws[i] = e;
-        k += 1;
-    }
-}
-
 // How many bits the slots have in which words of l bits stand, m being the longest length.
 pub(crate) fn slot_bits(m: usize, l: usize) -> usize
     ensures { result ≡ slot_bits m l }
 {
-    if 12 < l {
-        return m;
-    }
-    if 12 < m {
-        return 12;
-    }
-    m
+    if l <= 12 { m.min(12) } else { m }
 }
 
 // Where the part begins in which words of l bits stand.
 pub(crate) fn slot_base(l: usize) -> usize
     ensures { result ≡ slot_base l }
 {
-    if 12 < l {
-        return 4096;
-    }
-    0
+    if l <= 12 { 0 } else { 4096 }
 }
 
 // Writes symbol s's word w, of l bits, into every slot that begins with it.
@@ -55,7 +33,7 @@ pub(crate) fn put(ws: &mut [u32], m: usize, l: usize, s: usize, w: u32)
 {
     let size: usize = 1 << (slot_bits(m, l) - l);
     let from = slot_base(l) + w as usize * size;
-    fill(ws, from, size, (s * 256 + l) as u32);
+    ws[from..from + size].fill((s * 256 + l) as u32);
 }
 
 // Writes symbol s's word w, where it has one, and gives the word that the next symbol of its length gets.
@@ -75,15 +53,11 @@ pub(crate) fn place(lengths: &[u8], first: [u32; 19], m: usize, ws: &mut [u32])
     requires { Buildable lengths.now m (length ws.old) × (first ≡ firsts_of lengths.now) }
     ensures { Slotted lengths.now ws.new (length lengths.now) }
 {
-    let all = ws.len();
-    fill(ws, 0, all, 0);
+    ws.fill(0);
     let mut next = first;
-    let mut s: usize = 0;
-    while s < lengths.len() {
-        let l = lengths[s] as usize;
-        let w = next[l];
-        next[l] = place_symbol(ws, m, l, s, w);
-        s += 1;
+    for (s, length) in lengths.iter().enumerate() {
+        let l = *length as usize;
+        next[l] = place_symbol(ws, m, l, s, next[l]);
     }
 }
 
@@ -96,7 +70,7 @@ pub(crate) fn write_table(lengths: &[u8], m: usize, ws: &mut [u32])
     let first = firsts(lengths);
     let heads = first[12] as usize;
     place(lengths, first, m, ws);
-    fill(ws, 0, heads, 255);
+    ws[..heads].fill(255);
 }
 
 // The table of lengths that pass refusals 9 and 10, m being the longest, in the workspace words from `from` to `to`, which are as

@@ -1,14 +1,14 @@
 -- The loop that gives each place of a list what a function says of the place: lengths, planes and workspace as they are lent; and what
 -- is lent, as src/lib.rt finds it. Assumes nothing.
-use mathlib.Core.Path.{◌≡◌, refl, sym, ◌∙◌}
+use mathlib.Core.Path.{◌≡◌, refl, sym, ap, ◌∙◌}
 use mathlib.Core.List.{List}
 use Prim.Native.Nat.{ℕ, zero, suc, ◌+◌, ◌*◌, ◌/◌, ◌%◌, ◌≤◌, ◌<◌}
 use native.Mathlib.Omega.{arith}
 use borrow.Author.Tests.{eq-eqb, ne_eqb, lt-ltb, le-ltb}
 use lib.Bits.{bit_xor, differ, xor_step}
-use lib.ListN.{length, get_or, set}
+use lib.ListN.{length, get_or, set, replicate, length-replicate, get_or-replicate}
 use Rattle.scope.specs.Base.{Step, list_below}
-use Rattle.lists.proofs.Made.{length-list_from, get_or-below}
+use Rattle.lists.proofs.Made.{length-list_from, get_or-below, list_below_only}
 use Rattle.memory.proofs.InPlace.{At, at_step, at_end, rebuilt_only, sweeps}
 use Rattle.cases.specs.Held as held
 use Rattle.cases.specs.Held.{flip_of, lent8, lent16, lent_word, word_after}
@@ -55,8 +55,6 @@ module _ (number : ℕ) where
     unfolding held.word_after held.as_found
     word_zero h = rw (ne_eqb number 0 n0, le-ltb number 5 h)
 
-pub ruleset numbered = (flip_planes, flip_found, flip_zero, word_planes, word_found, word_zero)
-
 module _ (after : List ℕ) (number i : ℕ) (flip : ℕ) (e : flip ≡ flip_of number) where
   pub lent8_is : bit_xor (get_or after i 0) flip ≡ lent8 after (flip_of number) i
   unfolding held.lent8
@@ -75,8 +73,11 @@ flipped_differs x e = clash (x % 2) refl (sym e ∙ xor_step x 255)
     clash (suc zero) h k = omega arith
     clash (suc (suc d)) h k = omega arith
 
-pub word_is : 2779096485 ≡ lent_word
+-- every place filled with it
+pub word_filled : (n : ℕ) (xs : List ℕ) → xs ≡ replicate n 2779096485 → xs ≡ list_below n (λ j. lent_word)
 unfolding held.lent_word
-word_is = refl
+word_filled n xs e =
+    list_below_only (λ j. 2779096485) n xs (ap length e ∙ length-replicate {A = ℕ} n 2779096485)
+    (λ k l. rw e (get_or-replicate {A = ℕ} n k 2779096485 0 l))
 
-pub ruleset placing = (place_step, place_end, lent8_is, lent16_is, word_is, sweeps)
+pub ruleset placing = (place_step, place_end, lent8_is, lent16_is, sweeps)

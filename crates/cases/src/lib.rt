@@ -15,7 +15,7 @@ use layout::le32_at;
 
 // ---- the form
 
-// The geometry that an entry is called with.
+// The geometry that an entry is called with: numbers, as the stored list has them and as they cross to the entry.
 #[derive(Clone, Copy)]
 pub struct Shape {
     pub width: u32,
@@ -28,7 +28,8 @@ pub struct Shape {
     pub interlaced: u32,
 }
 
-// An answer: document 01's number (0 for planes), the kind of its place (0 nothing, 1 a slice, 2 a plane), which one.
+// An answer: document 01's number (0 for planes), the kind of its place (0 nothing, 1 a slice, 2 a plane), which one. Numbers, as the stored
+// list has them: a number that is no refusal's must be told from each that is.
 #[derive(Clone, Copy)]
 pub struct Told {
     pub number: u32,
@@ -98,14 +99,14 @@ pub fn case_of(case: &[u8]) -> Case
     let end = frame + le32_at(case, 68);
     Case {
         entry: number_at(case, 0),
-        shape: shape,
+        shape,
         words: le32_at(case, 36),
         samples: le32_at(case, 40),
         lengths: le32_at(case, 44),
-        stored: stored,
-        after: after,
-        frame: frame,
-        end: end,
+        stored,
+        after,
+        frame,
+        end,
     }
 }
 
@@ -134,12 +135,10 @@ pub fn spread(runs: &[u8], lengths: &mut [u8])
     ensures { lengths.new ≡ list_below (length lengths.old) (length_at runs.now) }
 {
     let mut k = 0;
-    let mut i = 0;
-    while i < lengths.len() {
+    for (i, length) in lengths.iter_mut().enumerate() {
         let run = run_of(runs, k);
-        lengths[i] = (run % 256) as u8;
-        i += 1;
-        k += is_over(run, i);
+        *length = (run % 256) as u8;
+        k += is_over(run, i + 1);
     }
 }
 
@@ -150,13 +149,10 @@ pub fn spread(runs: &[u8], lengths: &mut [u8])
 fn flip_of(number: u32) -> u8
     ensures { result ≡ flip_of number }
 {
-    if number == 0 {
-        return 255;
+    match number {
+        1..=4 => 0,
+        _ => 255,
     }
-    if number < 5 {
-        return 0;
-    }
-    255
 }
 
 // The 16-bit sample of two bytes, the low one first.
@@ -172,10 +168,8 @@ pub fn lend_u8(after: &[u8], number: u32, planes: &mut [u8])
     ensures { planes.new ≡ list_below (length planes.old) (lent8 after.now (flip_of number)) }
 {
     let flip = flip_of(number);
-    let mut i = 0;
-    while i < planes.len() {
-        planes[i] = after[i] ^ flip;
-        i += 1;
+    for (i, plane) in planes.iter_mut().enumerate() {
+        *plane = after[i] ^ flip;
     }
 }
 
@@ -185,10 +179,8 @@ pub fn lend_u16(after: &[u8], number: u32, planes: &mut [u16])
     ensures { planes.new ≡ list_below (length planes.old) (lent16 after.now (flip_of number)) }
 {
     let flip = flip_of(number);
-    let mut i = 0;
-    while i < planes.len() {
-        planes[i] = two_bytes(after[2 * i] ^ flip, after[2 * i + 1] ^ flip);
-        i += 1;
+    for (i, plane) in planes.iter_mut().enumerate() {
+        *plane = two_bytes(after[2 * i] ^ flip, after[2 * i + 1] ^ flip);
     }
 }
 
@@ -196,11 +188,7 @@ pub fn lend_u16(after: &[u8], number: u32, planes: &mut [u16])
 pub fn lend_words(words: &mut [u32])
     ensures { words.new ≡ list_below (length words.old) (λ _. lent_word) }
 {
-    let mut i = 0;
-    while i < words.len() {
-        words[i] = 2779096485;
-        i += 1;
-    }
+    words.fill(2779096485);
 }
 
 // ---- after the answer
@@ -210,14 +198,7 @@ pub fn holds_u8(planes: &[u8], after: &[u8]) -> bool
     requires { length planes.now ≤ length after.now }
     ensures { result ≡ agrees (held8 after.now) planes.now (length planes.now) }
 {
-    let mut i = 0;
-    while i < planes.len() {
-        if planes[i] != after[i] {
-            return false;
-        }
-        i += 1;
-    }
-    true
+    planes.iter().zip(after).all(|(p, a)| *p == *a)
 }
 
 // The same for 16-bit samples.
@@ -225,13 +206,10 @@ pub fn holds_u16(planes: &[u16], after: &[u8]) -> bool
     requires { 2 * length planes.now ≤ length after.now }
     ensures { result ≡ agrees (held16 after.now) planes.now (length planes.now) }
 {
-    let mut i = 0;
-    while i < planes.len() {
-        let held = two_bytes(after[2 * i], after[2 * i + 1]);
-        if planes[i] != held {
+    for (i, plane) in planes.iter().enumerate() {
+        if *plane != two_bytes(after[2 * i], after[2 * i + 1]) {
             return false;
         }
-        i += 1;
     }
     true
 }
@@ -240,13 +218,10 @@ pub fn holds_u16(planes: &[u16], after: &[u8]) -> bool
 fn word_after(number: u32) -> u32
     ensures { result ≡ word_after number }
 {
-    if number == 0 {
-        return 0;
+    match number {
+        1..=4 => 2779096485,
+        _ => 0,
     }
-    if number < 5 {
-        return 2779096485;
-    }
-    0
 }
 
 // Whether every word holds what it must where the stored answer has this number.
@@ -254,14 +229,7 @@ pub fn holds_words(words: &[u32], number: u32) -> bool
     ensures { result ≡ agrees (λ _. word_after number) words.now (length words.now) }
 {
     let word = word_after(number);
-    let mut i = 0;
-    while i < words.len() {
-        if words[i] != word {
-            return false;
-        }
-        i += 1;
-    }
-    true
+    words.iter().all(|w| *w == word)
 }
 
 // ---- the verdict

@@ -4,11 +4,11 @@ use mathlib.Core.Path.{◌≡◌, sym, ap, ◌∙◌}
 use mathlib.Core.List.{List}
 use Prim.Native.Nat.{ℕ, ◌+◌, ◌≤◌, ◌<◌}
 use native.Mathlib.Decide.{ℕ_discrete}
-use borrow.Author.Tests.{eq-eqb, ne_eqb, lt-ltb, le-ltb, ltb-false}
+use borrow.Author.Tests.{eq-eqb, ne_eqb, ltb-false}
 use borrow.Author.Rules.{rules}
 use lib.Dec.{eqb, ltb}
 use lib.ListN.{length, get_or, set}
-use Rattle.scope.specs.Refusals.{refuse_if, ◌and_then◌}
+use Rattle.scope.specs.Refusals.{◌and_then◌}
 use Rattle.scope.specs.Geometry.{plane_count, slice_count, lengths_of}
 use Rattle.scope.specs.Layout as lay
 use Rattle.scope.specs.Layout.{plane_index, slice_at}
@@ -18,10 +18,10 @@ use Rattle.scope.specs.Pieces as pcs
 use Rattle.scope.specs.Frame.{slice_lengths, need_of_all}
 use Rattle.scope.specs.declared.Geometry.{Geometry}
 use Rattle.scope.specs.declared.SliceAt.{SliceAt}
-use Rattle.scope.specs.declared.Place.{Place}
 use Rattle.scope.specs.declared.Place.TheVariants.{Nothing}
-use Rattle.scope.specs.declared.Answer.{Answer}
-use Rattle.scope.specs.declared.Answer.TheVariants.{Done, Refused}
+use Rattle.scope.specs.declared.Refusal.{Refusal}
+use Rattle.std.specs.Prelude.{Err}
+use Rattle.scope.specs.Answers.{Answer, done}
 use Rattle.scope.specs.Pieces.{in_order, preamble_checks, index_check, length_check, room_check, slice_check, frame_checks}
 use Rattle.refusals.proofs.Rows.{index_below}
 use Rattle.refusals.proofs.InOrder.{first_passed, then_passed, if_passed, each_passed, then_same, then_then, order_same}
@@ -43,7 +43,7 @@ module _ (frame : List ℕ) (g : Geometry) (shorts : List ℕ) (t : ℕ) (seen :
   by_slice = er ∙ ap (λ (q : ℕ). slice_check_by (length frame) g.depth (get_or shorts q 0) a) ei ∙ ap (slice_check_by (length frame) g.depth (get_or shorts (plane_index frame g s) 0)) ea
 
   -- slice s is refused
-  pub slice_refused : (n : ℕ) (pl : Place) → r ≡ Refused n pl → Refused n pl ≡ in_order (slice_count g) (slices_by frame g shorts)
+  pub slice_refused : (why : Refusal) → r ≡ Err why → Err why ≡ in_order (slice_count g) (slices_by frame g shorts)
   slice_refused = going_refused (slices_by frame g shorts) frame g t seen s w p ls ei r by_slice
 
 -- slice s passed: what the loop knew before it, its plane and record, and what its check answered
@@ -53,7 +53,7 @@ pub record SlicePassed (frame : List ℕ) (g : Geometry) (shorts : List ℕ) (t 
   pub plane_is : p ≡ plane_index frame g s
   pub record_is : a ≡ slice_at frame g s
   pub answer_is : r ≡ slice_check_by (length frame) g.depth (get_or shorts p 0) a
-  pub passed : r ≡ Done
+  pub passed : r ≡ done
 
 -- so the loop knows the same of one slice more
 pub slice_step : {frame : List ℕ} {g : Geometry} {shorts : List ℕ} {t : ℕ} {seen : List ℕ} {s p : ℕ} {a : SliceAt} {r : Answer}
@@ -67,47 +67,40 @@ pub short_small : (g : Geometry) (shorts : List ℕ) (p : ℕ) → Shortests g s
 short_small g shorts p h l = h.small p l
 
 -- which matters only where 9 and 10 refuse nothing
-pub shorts_told : (g : Geometry) (shorts : List ℕ) (words : Answer) → (words ≡ Done → Shortests g shorts) → words ≡ Done → Shortests g shorts
+pub shorts_told : (g : Geometry) (shorts : List ℕ) (words : Answer) → (words ≡ done → Shortests g shorts) → words ≡ done → Shortests g shorts
 shorts_told g shorts words h e = h e
 
 -- ---- the steps in order
 
 module _ (frame : List ℕ) (g : Geometry) (words room : Answer) (shorts : List ℕ) where
   -- 9 or 10
-  pub words_refused : (n : ℕ) (w : Place) → words ≡ Refused n w → Refused n w ≡ words_by frame g words room shorts
+  pub words_refused : (why : Refusal) → words ≡ Err why → Err why ≡ words_by frame g words room shorts
   unfolding slc.words_by
-  words_refused n w h = rw h
+  words_refused why h = rw h
 
   -- 11
-  pub words_full : (n : ℕ) (w : Place) → words ≡ Done → room ≡ Refused n w → Refused n w ≡ words_by frame g words room shorts
+  pub words_full : (why : Refusal) → words ≡ done → room ≡ Err why → Err why ≡ words_by frame g words room shorts
   unfolding slc.words_by
-  words_full n w h k = rw (h, k)
+  words_full why h k = rw (h, k)
 
   -- else the slices' answer
-  pub words_slices : (r : Answer) → words ≡ Done → room ≡ Done → r ≡ in_order (slice_count g) (slices_by frame g shorts) → r ≡ words_by frame g words room shorts
+  pub words_slices : (r : Answer) → words ≡ done → room ≡ done → r ≡ in_order (slice_count g) (slices_by frame g shorts) → r ≡ words_by frame g words room shorts
   unfolding slc.words_by
   words_slices r h k e = rw (h, k) e
 
   -- 5 to 8
-  pub frame_early : (a : Answer) (n : ℕ) (w : Place) → a ≡ layout_checks frame g → a ≡ Refused n w → Refused n w ≡ framed_by frame g words room shorts
+  pub frame_early : (a : Answer) (why : Refusal) → a ≡ layout_checks frame g → a ≡ Err why → Err why ≡ framed_by frame g words room shorts
   unfolding slc.framed_by
-  frame_early a n w e h = rw (← e, h)
+  frame_early a why e h = rw (← e, h)
 
   -- else the rest
-  pub frame_late : (a b : Answer) → a ≡ layout_checks frame g → a ≡ Done → b ≡ words_by frame g words room shorts → b ≡ framed_by frame g words room shorts
+  pub frame_late : (a b : Answer) → a ≡ layout_checks frame g → a ≡ done → b ≡ words_by frame g words room shorts → b ≡ framed_by frame g words room shorts
   unfolding slc.framed_by
   frame_late a b e h k = rw (← e, h) k
 
 -- and then none of 5 to 8 applies
-pub layout_told : (frame : List ℕ) (g : Geometry) (a : Answer) → a ≡ layout_checks frame g → a ≡ Done → Done ≡ layout_checks frame g
+pub layout_told : (frame : List ℕ) (g : Geometry) (a : Answer) → a ≡ layout_checks frame g → a ≡ done → done ≡ layout_checks frame g
 layout_told frame g a e h = sym h ∙ e
-
--- 11, by the sum of the needs
-pub room_short : (need w : ℕ) → w < need → Refused 11 Nothing ≡ refuse_if (ltb w need) 11 Nothing
-room_short need w h = rw (lt-ltb w need h)
-
-pub room_enough : (need w : ℕ) → need ≤ w → Done ≡ refuse_if (ltb w need) 11 Nothing
-room_enough need w h = rw (le-ltb w need h)
 
 pub ruleset wordings = (words_refused, words_full, words_slices, layout_order, shorts_told, rules)
 
@@ -129,47 +122,47 @@ unfolding slc.slices_by slc.slice_rule slc.size_check lay.slice_at pcs.slice_che
 slice_own frame g lengths shorts s e = rw (e, short_long (slice_lengths frame g lengths s))
 
 -- 5 to 14 by what the lengths answer, and, where they are not refused, by what the workspace answers and each plane's shortest word
-pub framed_is : (frame : List ℕ) (g : Geometry) (lengths : List ℕ) (words room room' : Answer) (shorts : List ℕ) → words ≡ in_order (plane_count g) (length_check g lengths) → (words ≡ Done → room ≡ room') → (words ≡ Done → (p : ℕ) → p < plane_count g → get_or shorts p 0 ≡ shortest (lengths_of g lengths p)) → framed_by frame g words room shorts ≡ frame_checks frame g lengths room'
+pub framed_is : (frame : List ℕ) (g : Geometry) (lengths : List ℕ) (words room room' : Answer) (shorts : List ℕ) → words ≡ in_order (plane_count g) (length_check g lengths) → (words ≡ done → room ≡ room') → (words ≡ done → (p : ℕ) → p < plane_count g → get_or shorts p 0 ≡ shortest (lengths_of g lengths p)) → framed_by frame g words room shorts ≡ frame_checks frame g lengths room'
 unfolding slc.framed_by slc.words_by pcs.frame_checks laid.layout_checks
 framed_is frame g lengths words room room' shorts ew er es =
     then_then (preamble_checks frame g) (in_order (slice_count g) (index_check frame g)) (words and_then room and_then in_order (slice_count g) (slices_by frame g shorts))
     ∙ then_same (preamble_checks frame g) _ _ (λ d. then_same (in_order (slice_count g) (index_check frame g)) _ _ (λ i. rest i ∙ ap (λ (x : Answer). x and_then room' and_then in_order (slice_count g) (slice_check frame g lengths)) ew))
   where
-    rest : Done ≡ in_order (slice_count g) (index_check frame g) → (words and_then room and_then in_order (slice_count g) (slices_by frame g shorts)) ≡ (words and_then room' and_then in_order (slice_count g) (slice_check frame g lengths))
+    rest : done ≡ in_order (slice_count g) (index_check frame g) → (words and_then room and_then in_order (slice_count g) (slices_by frame g shorts)) ≡ (words and_then room' and_then in_order (slice_count g) (slice_check frame g lengths))
     rest i =
         then_same words _ _ (λ d. ap (λ (x : Answer). x and_then in_order (slice_count g) (slices_by frame g shorts)) (er (sym d)) ∙ then_same room' _ _ (λ r. order_same (slice_count g) _ _ (λ s l.
         slice_own frame g lengths shorts s (es (sym d) (plane_index frame g s) (index_below frame g s (each_passed (index_check frame g) (slice_count g) s i l))))))
 
 -- ---- once none applies
 
-module _ (frame : List ℕ) (g : Geometry) (lengths : List ℕ) (room : Answer) (e : Done ≡ frame_checks frame g lengths room) where
-  past_preamble : Done ≡ (in_order (slice_count g) (index_check frame g) and_then in_order (plane_count g) (length_check g lengths) and_then room and_then in_order (slice_count g) (slice_check frame g lengths))
+module _ (frame : List ℕ) (g : Geometry) (lengths : List ℕ) (room : Answer) (e : done ≡ frame_checks frame g lengths room) where
+  past_preamble : done ≡ (in_order (slice_count g) (index_check frame g) and_then in_order (plane_count g) (length_check g lengths) and_then room and_then in_order (slice_count g) (slice_check frame g lengths))
   unfolding pcs.frame_checks
   past_preamble = then_passed (preamble_checks frame g) _ e
 
-  past_indices : Done ≡ (in_order (plane_count g) (length_check g lengths) and_then room and_then in_order (slice_count g) (slice_check frame g lengths))
+  past_indices : done ≡ (in_order (plane_count g) (length_check g lengths) and_then room and_then in_order (slice_count g) (slice_check frame g lengths))
   past_indices = then_passed (in_order (slice_count g) (index_check frame g)) _ past_preamble
 
-  past_words : Done ≡ (room and_then in_order (slice_count g) (slice_check frame g lengths))
+  past_words : done ≡ (room and_then in_order (slice_count g) (slice_check frame g lengths))
   past_words = then_passed (in_order (plane_count g) (length_check g lengths)) _ past_indices
 
   -- each slice names a plane that has room for it
-  pub frame_order : Done ≡ in_order (slice_count g) (index_check frame g)
+  pub frame_order : done ≡ in_order (slice_count g) (index_check frame g)
   frame_order = first_passed (in_order (slice_count g) (index_check frame g)) _ past_preamble
 
   -- each plane's lengths pass 9 and 10
-  pub frame_lengths : Done ≡ in_order (plane_count g) (length_check g lengths)
+  pub frame_lengths : done ≡ in_order (plane_count g) (length_check g lengths)
   frame_lengths = first_passed (in_order (plane_count g) (length_check g lengths)) _ past_indices
 
   -- the workspace passes 11
-  pub frame_room : Done ≡ room
+  pub frame_room : done ≡ room
   frame_room = first_passed room _ past_words
 
   -- and each slice passes 12 to 14
-  pub frame_slices : Done ≡ in_order (slice_count g) (slice_check frame g lengths)
+  pub frame_slices : done ≡ in_order (slice_count g) (slice_check frame g lengths)
   frame_slices = then_passed room _ past_words
 
 -- 11 passes where the workspace has room for all tables
-pub room_in : (g : Geometry) (lengths : List ℕ) (w : ℕ) → Done ≡ room_check g lengths w → need_of_all g lengths ≤ w
+pub room_in : (g : Geometry) (lengths : List ℕ) (w : ℕ) → done ≡ room_check g lengths w → need_of_all g lengths ≤ w
 unfolding pcs.room_check
 room_in g lengths w e = ltb-false _ _ (if_passed (ltb w (need_of_all g lengths)) 11 Nothing e)

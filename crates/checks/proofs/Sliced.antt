@@ -19,8 +19,7 @@ use Rattle.scope.specs.Pieces as pcs
 use Rattle.scope.specs.Frame.{slice_rows}
 use Rattle.scope.specs.declared.Geometry.{Geometry}
 use Rattle.scope.specs.declared.Place.TheVariants.{Slice, Plane}
-use Rattle.scope.specs.declared.Answer.{Answer}
-use Rattle.scope.specs.declared.Answer.TheVariants.{Done, Refused}
+use Rattle.scope.specs.Answers.{Answer, done, refused}
 use Rattle.scope.specs.Pieces.{slice_check}
 use Rattle.scope.proofs.Table.{planes_when}
 use Rattle.checks.specs.Slices as slc
@@ -43,12 +42,12 @@ module _ (samples bits : ℕ) (ls : samples ≤ 268435456) (lb : bits < 256) whe
   rounded_fit = record { fits = omega (arith, bits_most) }
 
 -- too few bytes
-pub size_short : (s bytes samples bits : ℕ) → bytes < (samples * bits + 7) / 8 → Refused 12 (Slice s) ≡ size_check s bytes samples bits
+pub size_short : (s bytes samples bits : ℕ) → bytes < (samples * bits + 7) / 8 → refused 12 (Slice s) ≡ size_check s bytes samples bits
 unfolding slc.size_check
 size_short s bytes samples bits h = rw (lt-ltb bytes (over_up (samples * bits) 8) h)
 
 -- enough
-pub size_enough : (s bytes samples bits : ℕ) → (samples * bits + 7) / 8 ≤ bytes → Done ≡ size_check s bytes samples bits
+pub size_enough : (s bytes samples bits : ℕ) → (samples * bits + 7) / 8 ≤ bytes → done ≡ size_check s bytes samples bits
 unfolding slc.size_check
 size_enough s bytes samples bits h = rw (le-ltb bytes (over_up (samples * bits) 8) h)
 
@@ -58,19 +57,19 @@ pub ruleset sizings = (bits_fit, rounded_fit, size_short, size_enough, rules)
 
 module _ (s plane samples start end : ℕ) (raw : Bool) (len depth b : ℕ) where
   -- 12: it ends before its start
-  pub slice_12a : end < start → Refused 12 (Slice s) ≡ slice_rule s plane samples start end raw len depth b
+  pub slice_12a : end < start → refused 12 (Slice s) ≡ slice_rule s plane samples start end raw len depth b
   unfolding slc.slice_rule
   slice_12a h = rw (lt-ltb end start h)
 
   module _ (l1 : start ≤ end) where
     -- 12: or past the frame
-    pub slice_12b : len < end → Refused 12 (Slice s) ≡ slice_rule s plane samples start end raw len depth b
+    pub slice_12b : len < end → refused 12 (Slice s) ≡ slice_rule s plane samples start end raw len depth b
     unfolding slc.slice_rule
     slice_12b h = rw (le-ltb end start l1, lt-ltb len end h)
 
     module _ (l2 : end ≤ len) where
       -- refusal 13
-      pub slice_13 : end < start + 2 → Refused 13 (Slice s) ≡ slice_rule s plane samples start end raw len depth b
+      pub slice_13 : end < start + 2 → refused 13 (Slice s) ≡ slice_rule s plane samples start end raw len depth b
       unfolding slc.slice_rule
       slice_13 h = rw (le-ltb end start l1, le-ltb len end l2, lt-ltb end (start + 2) h)
 
@@ -82,7 +81,7 @@ module _ (s plane samples start end : ℕ) (raw : Bool) (len depth b : ℕ) wher
 
         module _ (coded : raw ≡ false) where
           -- 14: coded, and its plane has no word
-          pub slice_14 : b ≡ 0 → Refused 14 (Plane plane) ≡ slice_rule s plane samples start end raw len depth b
+          pub slice_14 : b ≡ 0 → refused 14 (Plane plane) ≡ slice_rule s plane samples start end raw len depth b
           unfolding slc.slice_rule
           slice_14 z = rw (le-ltb end start l1, le-ltb len end l2, le-ltb end (start + 2) l3, coded, eq-eqb b 0 z)
 
@@ -95,7 +94,7 @@ pub ruleset slicings = (slice_12a, slice_12b, slice_13, slice_raw, slice_14, sli
 
 -- ---- a slice that passed
 
-module _ (frame : List ℕ) (g : Geometry) (lengths : List ℕ) (s : ℕ) (h : Done ≡ slice_check frame g lengths s) where
+module _ (frame : List ℕ) (g : Geometry) (lengths : List ℕ) (s : ℕ) (h : done ≡ slice_check frame g lengths s) where
   -- none of its five rows applies
   pub slice_none : NoneApplies (slice_rows frame g lengths s)
   unfolding pcs.slice_check

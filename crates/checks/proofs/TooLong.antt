@@ -13,7 +13,7 @@ use Rattle.scope.specs.Words.{longest, length_of, shares, too_long, overfull}
 use Rattle.scope.specs.Frame.{answer_of}
 use Rattle.scope.specs.declared.Geometry.{Geometry}
 use Rattle.scope.specs.declared.Place.TheVariants.{Plane}
-use Rattle.scope.specs.declared.Answer.TheVariants.{Done, Refused}
+use Rattle.scope.specs.Answers.{done, refused}
 use Rattle.scope.specs.Pieces.{in_order, length_check}
 use Rattle.scope.specs.declared.Entry.{Entry}
 use Rattle.scope.proofs.Table.{in_pieces}
@@ -41,13 +41,13 @@ module _ (ls : List ℕ) where
   not_over h = le-ltb 262144 (shares ls) h
 
 -- a plane that 9 and 10 leave has passed
-kept_passes : (g : Geometry) (lengths : List ℕ) (q : ℕ) → Kept (lengths_of g lengths q) → Done ≡ length_check g lengths q
+kept_passes : (g : Geometry) (lengths : List ℕ) (q : ℕ) → Kept (lengths_of g lengths q) → done ≡ length_check g lengths q
 unfolding pcs.length_check
 kept_passes g lengths q k =
     rw (none_long (lengths_of g lengths q) k.short, not_over (lengths_of g lengths q) k.full)
 
 -- and so have all before p
-earlier_pass : (g : Geometry) (lengths : List ℕ) (p : ℕ) → ((q : ℕ) → q < p → Kept (lengths_of g lengths q)) → Done ≡ in_order p (length_check g lengths)
+earlier_pass : (g : Geometry) (lengths : List ℕ) (p : ℕ) → ((q : ℕ) → q < p → Kept (lengths_of g lengths q)) → done ≡ in_order p (length_check g lengths)
 unfolding pcs.in_order
 earlier_pass g lengths zero k = refl
 earlier_pass g lengths (suc p) k =
@@ -57,10 +57,10 @@ earlier_pass g lengths (suc p) k =
 
 module _ (which : Entry) (frame : List ℕ) (g : Geometry) (lengths : List ℕ) (planes_len workspace_len p : ℕ) where
   -- what the check of plane p says is the answer, once it is reached
-  plane_answers : PlaneReached which frame g lengths planes_len p → (n : ℕ) → Refused n (Plane p) ≡ length_check g lengths p → answer_of which frame g lengths planes_len workspace_len ≡ Refused n (Plane p)
+  plane_answers : PlaneReached which frame g lengths planes_len p → (n : ℕ) → refused n (Plane p) ≡ length_check g lengths p → answer_of which frame g lengths planes_len workspace_len ≡ refused n (Plane p)
   unfolding pcs.rest_of pcs.frame_checks pcs.room_check
   plane_answers w n e =
-      let k : Refused n (Plane p) ≡ in_order (plane_count g) (length_check g lengths) = one_refused (length_check g lengths) (plane_count g) p n (Plane p) w.plane (earlier_pass g lengths p w.earlier) e in
+      let k : refused n (Plane p) ≡ in_order (plane_count g) (length_check g lengths) = one_refused (length_check g lengths) (plane_count g) p n (Plane p) w.plane (earlier_pass g lengths p w.earlier) e in
       rw (in_pieces which frame g lengths planes_len workspace_len, ← w.lent, ← w.preamble, ← w.indices, ← k)
 
   -- refusal 9: "a length above 18", at its plane

@@ -9,7 +9,7 @@ use Rattle.scope.specs.Layout.{plane_index, slice_at}
 use Rattle.scope.specs.declared.Geometry.{Geometry}
 use Rattle.scope.specs.declared.SliceAt.{SliceAt}
 use Rattle.scope.specs.declared.Place.TheVariants.{Slice, Plane}
-use Rattle.scope.specs.declared.Answer.{Answer}
+use Rattle.scope.specs.Answers.{Answer}
 use Rattle.scope.specs.Pieces.{in_order}
 use Rattle.preamble.specs.Layout.{layout_checks}
 

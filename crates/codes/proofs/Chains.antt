@@ -7,8 +7,8 @@ use native.Mathlib.Omega.{arith}
 use mathlib.Core.List.{List, [], ◌∷◌}
 use lib.ListN.{length}
 use Rattle.scope.specs.Words.{length_of, word_at, Chain, symbols, stuck_at, ◌before◌, on_word, chain_by, chain, Spells}
-use Rattle.scope.specs.declared.Found.{Found}
-use Rattle.scope.specs.declared.Found.TheVariants.{Word, NoWord}
+use Rattle.scope.specs.Found.{Found}
+use Rattle.std.specs.Prelude.{None, Some}
 use Rattle.codes.proofs.Words.{word_found, found-begins}
 
 -- ---- reading by any way to look a word up
@@ -42,10 +42,10 @@ chain_length look zero p ss e =
 chain_length look (suc n) p ss e = go (chain_length look n) (look p) refl
   where
     go : ((q : ℕ) (ts : List ℕ) → chain_by look q n ≡ symbols ts → length ts ≡ n) → (o : Found) → look p ≡ o → length ss ≡ suc n
-    go ih NoWord w = absurd (no_symbols p ss (rw w at e))
-    go ih (Word l s) w =
-        let b = before_symbols s (chain_by look (p + l) n) ss (rw w at e) in
-        sym (ap length b.1.1) ∙ ap suc (ih (p + l) b.0 b.1.0)
+    go ih None w = absurd (no_symbols p ss (rw w at e))
+    go ih (Some found) w =
+        let b = before_symbols found.symbol (chain_by look (p + found.length) n) ss (rw w at e) in
+        sym (ap length b.1.1) ∙ ap suc (ih (p + found.length) b.0 b.1.0)
 
 -- ---- chains of a code's own words
 
@@ -66,12 +66,12 @@ module _ (ls payload : List ℕ) where
     where
       go : ((q : ℕ) (ts : List ℕ) → chain ls payload q n ≡ symbols ts → Spells ls payload q ts) → (o : Found) → word_at ls payload p ≡ o
           → Spells ls payload p ss
-      go ih NoWord w = absurd (no_symbols p ss (rw w at e))
-      go ih (Word l s) w =
-          let b = before_symbols s (chain ls payload (p + l) n) ss (rw w at e) in
-          let f = found-begins ls payload p l s w in
+      go ih None w = absurd (no_symbols p ss (rw w at e))
+      go ih (Some found) w =
+          let b = before_symbols found.symbol (chain ls payload (p + found.length) n) ss (rw w at e) in
+          let f = found-begins ls payload p found.length found.symbol w in
           subst (λ (x : List ℕ). Spells ls payload p x) b.1.1
-          (f.0, subst (λ (x : ℕ). Spells ls payload (p + x) b.0) f.1 (ih (p + l) b.0 b.1.0))
+          (f.0, subst (λ (x : ℕ). Spells ls payload (p + x) b.0) f.1 (ih (p + found.length) b.0 b.1.0))
 
   -- reading n words succeeds exactly where the bits begin with a chain of n words
   pub chain_exactly : (n p : ℕ) (ss : List ℕ) → (chain ls payload p n ≡ symbols ss) ↔ ((length ss ≡ n) × Spells ls payload p ss)

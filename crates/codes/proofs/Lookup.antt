@@ -16,8 +16,8 @@ use borrow.Author.Tests.{eq-eqb, ne_eqb, le-ltb, le-leb, lt-leb}
 use Rattle.scope.specs.Bits.{window}
 use Rattle.scope.specs.Words.{longest, first, word_of, length_of, shares, head_below, heads, need, begins_with, word_below, word_at, Begins}
 use Rattle.scope.specs.Lookup.{packed, unpacked, begins_in, word_in, first_part, table_of, lookup_in}
-use Rattle.scope.specs.declared.Found.{Found}
-use Rattle.scope.specs.declared.Found.TheVariants.{Word, NoWord}
+use Rattle.scope.specs.Found.{Found, some_word}
+use Rattle.std.specs.Prelude.{None, Some}
 use Rattle.codes.proofs.Longest.{at_most_longest}
 use Rattle.lists.proofs.Tests.{which}
 use Rattle.bits.proofs.Windows.{window_small, window_head}
@@ -28,15 +28,15 @@ use Rattle.codes.proofs.Table.{need_short, need_long, table_length, table_short,
 -- ---- what a workspace word says
 
 -- a word that is packed is unpacked again
-pub unpacked-packed : (o : Found) → ((l s : ℕ) → o ≡ Word l s → (0 < l) × (l < 255)) → unpacked (packed o) ≡ o
+pub unpacked-packed : (o : Found) → ((l s : ℕ) → o ≡ some_word l s → (0 < l) × (l < 255)) → unpacked (packed o) ≡ o
 unfolding unpacked packed
-unpacked-packed NoWord h = refl
-unpacked-packed (Word l s) h =
-    let b : (0 < l) × (l < 255) = h l s refl in
-    let e₁ : (s * 256 + l) % 256 ≡ l = omega arith in
-    let e₂ : (s * 256 + l) / 256 ≡ s = omega arith in
-    let n : l ≡ 0 → ⊥ = λ e. not-le_of_lt b.0 (le_of_eq e) in
-    simp (e₁, e₂, ne_eqb l 0 n)
+unpacked-packed None h = refl
+unpacked-packed (Some w) h =
+    let b : (0 < w.length) × (w.length < 255) = h w.length w.symbol refl in
+    let e₁ : (w.symbol * 256 + w.length) % 256 ≡ w.length = omega arith in
+    let e₂ : (w.symbol * 256 + w.length) / 256 ≡ w.symbol = omega arith in
+    let n : w.length ≡ 0 → ⊥ = λ e. not-le_of_lt b.0 (le_of_eq e) in
+    simp (e₁, e₂, ne_eqb w.length 0 n)
 
 -- ---- the word in a number of k bits, where no word is longer than k
 
@@ -70,16 +70,16 @@ in_short ls payload p f (suc n) k = elim (dec_le (length_of ls n) 12) [
 ]
 
 -- a workspace word that says a word does not say to go on
-not_on : (o : Found) → ((l s : ℕ) → o ≡ Word l s → (0 < l) × (l < 255)) → eqb (packed o % 256) 255 ≡ false
+not_on : (o : Found) → ((l s : ℕ) → o ≡ some_word l s → (0 < l) × (l < 255)) → eqb (packed o % 256) 255 ≡ false
 unfolding packed
-not_on NoWord h = refl
-not_on (Word l s) h =
-    let b : (0 < l) × (l < 255) = h l s refl in
-    let n : (s * 256 + l) % 256 ≡ 255 → ⊥ = λ e. (let z : l ≡ 255 = omega arith in omega arith) in
+not_on None h = refl
+not_on (Some w) h =
+    let b : (0 < w.length) × (w.length < 255) = h w.length w.symbol refl in
+    let n : (w.symbol * 256 + w.length) % 256 ≡ 255 → ⊥ = λ e. (let z : w.length ≡ 255 = omega arith in omega arith) in
     ne_eqb _ _ n
 
 -- no word is found where no symbol has one
-no_word : (ls payload : List ℕ) (p n : ℕ) → longest ls ≡ 0 → word_below ls payload p n ≡ NoWord
+no_word : (ls payload : List ℕ) (p n : ℕ) → longest ls ≡ 0 → word_below ls payload p n ≡ None
 unfolding word_below begins_with
 no_word ls payload p zero h = refl
 no_word ls payload p (suc n) h =
@@ -88,7 +88,7 @@ no_word ls payload p (suc n) h =
 
 -- the table, and whatever stands behind it
 module _ (ls rest payload : List ℕ) (p : ℕ) (fits : longest ls ≤ 18) (full : shares ls ≤ 262144) where
-  found_small : (l s : ℕ) → word_at ls payload p ≡ Word l s → (0 < l) × (l < 255)
+  found_small : (l s : ℕ) → word_at ls payload p ≡ some_word l s → (0 < l) × (l < 255)
   found_small l s e = let f : FoundIn ls l s = found_in ls payload p l s e in (f.some, omega (arith, f.most))
 
   lookup_zero : longest ls ≡ 0 → lookup_in (table_of ls ++ rest) (longest ls) payload p ≡ word_at ls payload p

@@ -1,19 +1,17 @@
 -- Laws of a reading by any way to look a word up (document 01, "Words and lookup"): n words and then k more, and a reading that has
 -- begun. Assumes nothing.
 use mathlib.Core.Path.{◌≡◌, refl, sym, ap, ◌∙◌}
-use Prim.Native.Nat.{ℕ, zero, suc, ◌+◌, ◌-◌, ◌*◌, ◌^◌, ◌≤◌, ◌<◌}
+use Prim.Native.Nat.{ℕ, zero, suc, ◌+◌, ◌-◌, ◌*◌, ◌≤◌, ◌<◌}
 use native.Mathlib.Nat.{zero-add, suc-add}
 use native.Mathlib.Numerals.{add-one}
 use native.Mathlib.Omega.{arith}
 use mathlib.Core.List.{List, [], ◌∷◌, ◌++◌}
-use mir.Syntax.{w8, w16}
-use mir.Val.{Fits}
 use borrow.Rule.Slice.PartMut.{put_mid, same_len_mid, mid_len, post_of}
 use lib.ListN.{length, take, drop, set, length-set}
 use lib.Seq.{length-take-le, take-suc-set, take-append-add, take-append-le}
 use Rattle.scope.specs.Words.{Chain, symbols, stuck_at, ◌before◌, on_word, chain_by}
-use Rattle.scope.specs.declared.Found.{Found}
-use Rattle.scope.specs.declared.Found.TheVariants.{Word, NoWord}
+use Rattle.scope.specs.Found.{Found, some_word}
+use Rattle.std.specs.Prelude.{None, Some}
 use Rattle.codes.specs.Reading.{onward, position_after, Began}
 
 -- ---- n words, and then k more
@@ -48,12 +46,12 @@ chain_resumes look (suc n) at k = ap (chain_by look at) (suc-add n k) ∙ go (ch
     go : ((p j : ℕ) → chain_by look p (n + j) ≡ joined (chain_by look p n) (chain_by look (position_after look p n) j)) → (o : Found)
         → on_word o at (λ l s. s before chain_by look (at + l) (n + k))
         ≡ joined (on_word o at (λ l s. s before chain_by look (at + l) n)) (chain_by look (onward o at (λ p. position_after look p n)) k)
-    go ih NoWord = unfold on_word joined in refl
-    go ih (Word l s) = unfold on_word onward in
-        (ap (λ (c : Chain). s before c) (ih (at + l) k) ∙ sym (joined_before s (chain_by look (at + l) n) (chain_by look (position_after look (at + l) n) k)))
+    go ih None = unfold on_word joined in refl
+    go ih (Some w) = unfold on_word onward in
+        (ap (λ (c : Chain). w.symbol before c) (ih (at + w.length) k) ∙ sym (joined_before w.symbol (chain_by look (at + w.length) n) (chain_by look (position_after look (at + w.length) n) k)))
 
 -- no word fits at a position: it stays there
-stuck_stays : (look : ℕ → Found) (at k : ℕ) → look at ≡ NoWord → position_after look at k ≡ at
+stuck_stays : (look : ℕ → Found) (at k : ℕ) → look at ≡ None → position_after look at k ≡ at
 unfolding position_after onward
 stuck_stays look at zero e = refl
 stuck_stays look at (suc k) e = rw e
@@ -66,18 +64,18 @@ position_resumes look (suc n) at k = ap (position_after look at) (suc-add n k) �
   where
     go : ((p j : ℕ) → position_after look p (n + j) ≡ position_after look (position_after look p n) j) → (o : Found) → look at ≡ o
         → onward o at (λ p. position_after look p (n + k)) ≡ position_after look (onward o at (λ p. position_after look p n)) k
-    go ih NoWord e = unfold onward in (sym (stuck_stays look at k e))
-    go ih (Word l s) e = unfold onward in (ih (at + l) k)
+    go ih None e = unfold onward in (sym (stuck_stays look at k e))
+    go ih (Some w) e = unfold onward in (ih (at + w.length) k)
 
 -- a word has at most 18 bits
-pub position_near : (look : ℕ → Found) → ((p l s : ℕ) → look p ≡ Word l s → l ≤ 18) → (n at : ℕ) → position_after look at n ≤ at + 18 * n
+pub position_near : (look : ℕ → Found) → ((p l s : ℕ) → look p ≡ some_word l s → l ≤ 18) → (n at : ℕ) → position_after look at n ≤ at + 18 * n
 unfolding position_after
 position_near look short zero at = omega arith
 position_near look short (suc n) at = go (position_near look short n) (look at) refl
   where
     go : ((p : ℕ) → position_after look p n ≤ p + 18 * n) → (o : Found) → look at ≡ o → onward o at (λ p. position_after look p n) ≤ at + 18 * suc n
-    go ih NoWord e = unfold onward in (omega arith)
-    go ih (Word l s) e = unfold onward in (omega (arith, ih (at + l), short at l s e))
+    go ih None e = unfold onward in (omega arith)
+    go ih (Some w) e = unfold onward in (omega (arith, ih (at + w.length), short at w.length w.symbol e))
 
 -- ---- a reading that has begun
 
@@ -96,7 +94,7 @@ module _ (look : ℕ → Found) (at : ℕ) (out : List ℕ) (p k : ℕ) (b : Beg
   began_position j = position_resumes look k at j ∙ rw (← b.stands)
 
   -- one word more
-  pub began_word : (l s : ℕ) → k < length out → look p ≡ Word l s → Began look at (set out k s) (p + l) (k + 1)
+  pub began_word : (l s : ℕ) → k < length out → look p ≡ some_word l s → Began look at (set out k s) (p + l) (k + 1)
   unfolding chain_by on_word ◌before◌ then position_after onward
   began_word l s h f = record {
     within = rw length-set (omega arith);
@@ -110,7 +108,7 @@ module _ (look : ℕ → Found) (at : ℕ) (out : List ℕ) (p k : ℕ) (b : Beg
   }
 
   -- no word: the chain of n words is stuck there
-  pub began_stuck : (n : ℕ) → k < n → look p ≡ NoWord → chain_by look at n ≡ stuck_at p
+  pub began_stuck : (n : ℕ) → k < n → look p ≡ None → chain_by look at n ≡ stuck_at p
   unfolding chain_by on_word then
   began_stuck n h f =
       let e : n ≡ k + suc (n - suc k) = omega arith in
@@ -142,13 +140,3 @@ began_once {look} {at} {k₁ = k₁} {k₂} {out₁} {out₂} a b e = (
   where
     same : (ss ts : List ℕ) → symbols ss ≡ symbols ts → ss ≡ ts
     same ss ts f = cc
-
--- ---- a symbol's element
-
--- below the limit, a symbol fits 16 bits
-pub fits_u16 : (s : ℕ) → s < 2 ^ 16 → Fits w16 s
-fits_u16 s h = record { fits = h }
-
--- or a byte
-pub fits_u8 : (s : ℕ) → s < 2 ^ 8 → Fits w8 s
-fits_u8 s h = record { fits = h }

@@ -14,7 +14,8 @@ use borrow.Author.Tests.{eq-eqb, ne_eqb, lt-ltb, le-ltb, le-leb, lt-leb}
 use Rattle.scope.specs.Base.{list_from, list_below}
 use Rattle.scope.specs.Words.{longest, length_of, word_of, heads, need, need_from}
 use Rattle.scope.specs.Lookup.{packed, begins_in, word_in, first_part, slots, table_of}
-use Rattle.scope.specs.declared.Found.TheVariants.{Word, NoWord}
+use Rattle.scope.specs.Found.{some_word}
+use Rattle.std.specs.Prelude.{None}
 use Rattle.codes.proofs.Longest.{at_most_longest}
 use Rattle.lists.proofs.Made.{length-list_from, get_or-below}
 use Rattle.codes.proofs.Heads.{no_head_short}
@@ -23,7 +24,7 @@ use Rattle.codes.proofs.Heads.{no_head_short}
 
 -- the word of symbol s, where the slot begins with it
 pub slot_hit : (ls : List ℕ) (k w s : ℕ) → 0 < length_of ls s → length_of ls s ≤ k → w / 2 ^ (k - length_of ls s) ≡ word_of ls s
-    → word_in ls k w (suc s) ≡ Word (length_of ls s) s
+    → word_in ls k w (suc s) ≡ some_word (length_of ls s) s
 unfolding word_in begins_in
 slot_hit ls k w s h g e = simp (le-leb _ _ g, lt-ltb _ _ h, eq-eqb _ _ e)
 
@@ -34,7 +35,7 @@ unfolding word_in begins_in
 slot_miss ls k w s o = go (dec_le (length_of ls s) k) (dec_lt 0 (length_of ls s))
   where
     go : Dec (length_of ls s ≤ k) → Dec (0 < length_of ls s)
-        → cond (leb (length_of ls s) k && (ltb 0 (length_of ls s) && eqb (w / 2 ^ (k - length_of ls s)) (word_of ls s))) (Word (length_of ls s) s) (word_in ls k w s)
+        → cond (leb (length_of ls s) k && (ltb 0 (length_of ls s) && eqb (w / 2 ^ (k - length_of ls s)) (word_of ls s))) (some_word (length_of ls s) s) (word_in ls k w s)
         ≡ word_in ls k w s
     go (no a) d = simp (lt-leb (length_of ls s) k (omega (arith, a)))
     go (yes a) (no b) = simp (le-leb (length_of ls s) k a, le-ltb 0 (length_of ls s) (omega (arith, b)))
@@ -42,7 +43,7 @@ slot_miss ls k w s o = go (dec_le (length_of ls s) k) (dec_lt 0 (length_of ls s)
         simp (le-leb (length_of ls s) k a, lt-ltb 0 (length_of ls s) b, ne_eqb (w / 2 ^ (k - length_of ls s)) (word_of ls s) (o a b))
 
 -- where no symbol has a word, no slot has one
-none_in : (ls : List ℕ) (k w : ℕ) → longest ls ≡ 0 → (n : ℕ) → word_in ls k w n ≡ NoWord
+none_in : (ls : List ℕ) (k w : ℕ) → longest ls ≡ 0 → (n : ℕ) → word_in ls k w n ≡ None
 none_in ls k w e zero = unfold word_in in refl
 none_in ls k w e (suc n) = slot_miss ls k w n (λ _ b _. omega (arith, at_most_longest ls n)) ∙ none_in ls k w e n
 

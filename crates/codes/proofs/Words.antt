@@ -16,7 +16,8 @@ use borrow.Author.Tests.{eq-eqb, lt-ltb, ltb-true, eqb-true}
 use Rattle.scope.specs.Base.{count}
 use Rattle.scope.specs.Bits.{window}
 use Rattle.scope.specs.Words.{longest, start_down, first, word_of, length_of, begins_with, word_below, word_at, Begins}
-use Rattle.scope.specs.declared.Found.TheVariants.{Word}
+use Rattle.scope.specs.declared.Word.{Word}
+use Rattle.scope.specs.Found.{some_word}
 use Rattle.codes.specs.Tiers.{end}
 use Rattle.codes.proofs.Longest.{at_most_longest}
 use Rattle.lists.proofs.Counts.{count_at, count_apart, at_rank, Ranked}
@@ -148,7 +149,7 @@ unfolding begins_with
 test_of_begins ls payload p s b = simp (lt-ltb _ _ b.some, eq-eqb _ _ b.same)
 
 below_found : (ls payload : List ℕ) (p n : ℕ) → n ≤ length ls → (s : ℕ) → s < n → Begins ls payload p s
-    → word_below ls payload p n ≡ Word (length_of ls s) s
+    → word_below ls payload p n ≡ some_word (length_of ls s) s
 unfolding word_below
 below_found ls payload p zero k s h b = absurd (not-suc-le-zero h)
 below_found ls payload p (suc n) k s h b = elim (which (begins_with ls payload p n)) [
@@ -160,11 +161,22 @@ below_found ls payload p (suc n) k s h b = elim (which (begins_with ls payload p
 ]
 
 -- `word_at` is the word that the bits begin with
-pub word_found : (ls payload : List ℕ) (p s : ℕ) → Begins ls payload p s → word_at ls payload p ≡ Word (length_of ls s) s
+pub word_found : (ls payload : List ℕ) (p s : ℕ) → Begins ls payload p s → word_at ls payload p ≡ some_word (length_of ls s) s
 unfolding word_at
 word_found ls payload p s b = below_found ls payload p (length ls) (le_refl (length ls)) s b.inside b
 
-below_begins : (ls payload : List ℕ) (p n : ℕ) → n ≤ length ls → (l s : ℕ) → word_below ls payload p n ≡ Word l s
+-- what is found, in its parts
+some_length : {l s k t : ℕ} → some_word l s ≡ some_word k t → l ≡ k
+some_length {l} {s} {k} {t} e =
+    let d : ◌≡◌ {A = Word} (record { length = l; symbol = s }) (record { length = k; symbol = t }) = cc in
+    ap (λ (x : Word). x.length) d
+
+some_symbol : {l s k t : ℕ} → some_word l s ≡ some_word k t → s ≡ t
+some_symbol {l} {s} {k} {t} e =
+    let d : ◌≡◌ {A = Word} (record { length = l; symbol = s }) (record { length = k; symbol = t }) = cc in
+    ap (λ (x : Word). x.symbol) d
+
+below_begins : (ls payload : List ℕ) (p n : ℕ) → n ≤ length ls → (l s : ℕ) → word_below ls payload p n ≡ some_word l s
     → Begins ls payload p s × (l ≡ length_of ls s)
 unfolding word_below
 below_begins ls payload p zero k l s e =
@@ -172,15 +184,15 @@ below_begins ls payload p zero k l s e =
     absurd (omega arith)
 below_begins ls payload p (suc n) k l s e = elim (which (begins_with ls payload p n)) [
   | inl b ↦ (
-      let w : Word (length_of ls n) n ≡ Word l s = rw b at e in
-      let q : n ≡ s = cc in
-      let r : length_of ls n ≡ l = cc in
+      let w : some_word (length_of ls n) n ≡ some_word l s = rw b at e in
+      let q : n ≡ s = some_symbol w in
+      let r : length_of ls n ≡ l = some_length w in
       (subst (λ (x : ℕ). Begins ls payload p x) q (begins_of_test ls payload p n k b), sym r ∙ ap (length_of ls) q))
   | inr b ↦ below_begins ls payload p n (omega arith) l s (rw b at e)
 ]
 
 -- a word that is found is one that the bits begin with
-pub found-begins : (ls payload : List ℕ) (p l s : ℕ) → word_at ls payload p ≡ Word l s → Begins ls payload p s × (l ≡ length_of ls s)
+pub found-begins : (ls payload : List ℕ) (p l s : ℕ) → word_at ls payload p ≡ some_word l s → Begins ls payload p s × (l ≡ length_of ls s)
 unfolding word_at
 found-begins ls payload p l s e = below_begins ls payload p (length ls) (le_refl (length ls)) l s e
 
@@ -191,7 +203,7 @@ pub record FoundIn (ls : List ℕ) (l s : ℕ) : Type 0 where
   pub symbol : s < length ls
 
 -- of a word that is found
-pub found_in : (ls payload : List ℕ) (p l s : ℕ) → word_at ls payload p ≡ Word l s → FoundIn ls l s
+pub found_in : (ls payload : List ℕ) (p l s : ℕ) → word_at ls payload p ≡ some_word l s → FoundIn ls l s
 found_in ls payload p l s e =
     let b = found-begins ls payload p l s e in
     record {

@@ -11,8 +11,7 @@ use Rattle.scope.specs.Frame.{table, answer_of, picture_of, planes_after, worksp
 use Rattle.scope.specs.declared.Entry.{Entry}
 use Rattle.scope.specs.declared.Geometry.{Geometry}
 use Rattle.scope.specs.declared.Place.TheVariants.{Nothing}
-use Rattle.scope.specs.declared.Answer.{Answer}
-use Rattle.scope.specs.declared.Answer.TheVariants.{Done}
+use Rattle.scope.specs.Answers.{Answer, done}
 use Rattle.scope.proofs.Table.{first_cons}
 use Rattle.refusals.specs.Rows.{Every}
 use Rattle.refusals.proofs.InOrder.{then_passed}
@@ -20,7 +19,8 @@ use Rattle.refusals.proofs.Rows.{every_answer, every_one}
 use Rattle.places.specs.Picture.{Pictured}
 use Rattle.places.proofs.Picture.{pictured}
 use Rattle.magicyuv.specs.declared.Reply.{Reply}
-use Rattle.magicyuv.specs.Boundary.{reply_to, Numbers, numbers_fit, geometry_of, host_answer, Hosted}
+use Rattle.magicyuv.specs.declared.numbers.Numbers.{Numbers}
+use Rattle.magicyuv.specs.Boundary.{reply_to, numbers_fit, geometry_of, host_answer, Hosted}
 use Rattle.demands.specs.Demand.{FrameCall, table_for, picture_for, Demand1, LentAlike, Forgotten, Demand2, decoded, hosted, FrameEntry, decode8, decode16, magicyuv_decode8, magicyuv_decode16, FrameAllowed, frame_call}
 use Rattle.demands.proofs.Replies.{Numbered, says_reply, reply_done, by_table, left_done, left_found, left_cleared}
 
@@ -103,7 +103,7 @@ module _ (c : FrameCall) (st : Stated c) where
   number_is : c.reply.number ≡ number_of said
   number_is = ap (λ (x : Reply). x.number) st.reply
 
-  pub success_is : c.reply.number ≡ 0 → said ≡ Done
+  pub success_is : c.reply.number ≡ 0 → said ≡ done
   success_is z = reply_done (table_for c) c.reply st.reply numbers z
 
   success : c.reply.number ≡ 0 → (c.planes₁ ≡ picture_for c) × (c.workspace₁ ≡ zeros c.workspace₀)
@@ -129,7 +129,7 @@ module _ (c : FrameCall) (st : Stated c) where
       )
 
   -- no row of the table itself applies either
-  answer_done : c.reply.number ≡ 0 → answer_of c.which c.frame c.geometry c.lengths (length c.planes₀) (length c.workspace₀) ≡ Done
+  answer_done : c.reply.number ≡ 0 → answer_of c.which c.frame c.geometry c.lengths (length c.planes₀) (length c.workspace₀) ≡ done
   answer_done z =
       sym (then_passed (refuse_if (not c.named) 1 Nothing) _
       (sym (success_is z) ∙ whole c.which c.frame c.geometry c.lengths c.planes₀ c.workspace₀ c.named))

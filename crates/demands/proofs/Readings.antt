@@ -12,8 +12,7 @@ use Rattle.scope.specs.Words.{longest, shares, need, Chain, symbols, stuck_at, c
 use Rattle.scope.specs.Pieces.{readable}
 use Rattle.scope.specs.Alone.{build_answer, read_rows_alone, read_answer, samples_read, workspace_read}
 use Rattle.scope.specs.declared.Place.TheVariants.{Plane, Nothing}
-use Rattle.scope.specs.declared.Answer.{Answer}
-use Rattle.scope.specs.declared.Answer.TheVariants.{Done, Refused}
+use Rattle.scope.specs.Answers.{Answer, done, refused}
 use Rattle.scope.proofs.Table.{read_in_pieces}
 use Rattle.refusals.specs.Rows.{Every}
 use Rattle.refusals.proofs.InOrder.{first_passed, then_passed}
@@ -52,15 +51,15 @@ read_numbers ls payload n w =
     (every_next Numbered (build_answer ls w) (readable 0 (chain ls payload 0 n)) (build_numbers ls w) (λ e. chain_numbers (chain ls payload 0 n))))
 
 -- a chain that is readable has symbols
-readable_symbols : (c : Chain) → Done ≡ readable 0 c → c ≡ symbols (symbols_of c)
+readable_symbols : (c : Chain) → done ≡ readable 0 c → c ≡ symbols (symbols_of c)
 unfolding readable symbols_of
 readable_symbols (symbols ss) e = refl
 readable_symbols (stuck_at at) e = absurd (let z : ◌≡◌ {A = ℕ} 0 1 = cc in omega (arith, z))
 
 module _ (ls payload : List ℕ) (n w : ℕ) where
   -- a reading that succeeds built its table, and has its chain
-  module _ (e : read_answer ls payload n w ≡ Done) where
-    parts : Done ≡ (build_answer ls w and_then readable 0 (chain ls payload 0 n))
+  module _ (e : read_answer ls payload n w ≡ done) where
+    parts : done ≡ (build_answer ls w and_then readable 0 (chain ls payload 0 n))
     parts = then_passed (refuse_if (ltb 268435456 n) 4 Nothing) _ (sym e ∙ read_in_pieces ls payload n w)
 
     pub read_good : Good ls w
@@ -71,13 +70,13 @@ module _ (ls payload : List ℕ) (n w : ℕ) where
 
   -- and with a chain, a table that can be built and few samples it succeeds
   pub chain_read : length ls ≤ 16384 → longest ls ≤ 18 → shares ls ≤ 262144 → need ls ≤ w → n ≤ 268435456 → (ss : List ℕ) → chain ls payload 0 n ≡ symbols ss
-      → read_answer ls payload n w ≡ Done
+      → read_answer ls payload n w ≡ done
   unfolding readable
   chain_read few small full room k ss e = read_in_pieces ls payload n w ∙ rw (le-ltb _ _ k, answer_done ls w few small full room, e) refl
 
   -- with none it is 14 at plane 0
   pub no_chain : length ls ≤ 16384 → longest ls ≤ 18 → shares ls ≤ 262144 → need ls ≤ w → n ≤ 268435456 → (at : ℕ) → chain ls payload 0 n ≡ stuck_at at
-      → read_answer ls payload n w ≡ Refused 14 (Plane 0)
+      → read_answer ls payload n w ≡ refused 14 (Plane 0)
   unfolding readable
   no_chain few small full room k at e = read_in_pieces ls payload n w ∙ rw (le-ltb _ _ k, answer_done ls w few small full room, e) refl
 
@@ -94,7 +93,7 @@ module _ (c : ReadCall) (st : ReadStated c) where
   unfolding read_answer
   number_is = ap (λ (x : Reply). x.number) st.reply
 
-  success_is : c.reply.number ≡ 0 → said ≡ Done
+  success_is : c.reply.number ≡ 0 → said ≡ done
   unfolding read_answer
   success_is z = reply_done (read_rows_alone c.lengths c.payload n (length c.workspace₀)) c.reply st.reply (read_numbers c.lengths c.payload n (length c.workspace₀)) z
 
@@ -107,7 +106,7 @@ module _ (c : ReadCall) (st : ReadStated c) where
   hands : c.reply.number ≡ 0 → ChainOf c.lengths c.payload n c.samples₁
   unfolding samples_read
   hands z =
-      let d : said ≡ Done = success_is z in
+      let d : said ≡ done = success_is z in
       let s : c.samples₁ ≡ symbols_of (chain c.lengths c.payload 0 n) = st.samples ∙ left_done 11 c.samples₀ (zeros c.samples₀) (symbols_of (chain c.lengths c.payload 0 n)) said d in
       rw s (chain_is (symbols_of (chain c.lengths c.payload 0 n)) (read_chain c.lengths c.payload n (length c.workspace₀) d))
 
@@ -132,10 +131,10 @@ module _ (c : ReadCall) (st : ReadStated c) where
   -- no chain
   fails_at : InCaps c.lengths → shares c.lengths ≤ 262144 → need c.lengths ≤ length c.workspace₀ → n ≤ 268435456
       → (ch : Chain) → chain c.lengths c.payload 0 n ≡ ch → ((ss : List ℕ) → ChainOf c.lengths c.payload n ss → ⊥)
-      → Says (Refused 14 (Plane 0)) c.reply × ((c.samples₁ ≡ zeros c.samples₀) × (c.workspace₁ ≡ zeros c.workspace₀))
+      → Says (refused 14 (Plane 0)) c.reply × ((c.samples₁ ≡ zeros c.samples₀) × (c.workspace₁ ≡ zeros c.workspace₀))
   fails_at caps f r k (symbols ss) e h = absurd (h ss (chain_is ss e))
   fails_at caps f r k (stuck_at at) e h =
-      let a : said ≡ Refused 14 (Plane 0) = no_chain c.lengths c.payload n (length c.workspace₀) caps.few (longest_most c.lengths 18 caps.small) f r k at e in
+      let a : said ≡ refused 14 (Plane 0) = no_chain c.lengths c.payload n (length c.workspace₀) caps.few (longest_most c.lengths 18 caps.small) f r k at e in
       let b : c.reply ≡ reply_to said = unfold read_answer in st.reply in
       let m : c.reply.number ≡ 14 = number_is ∙ ap number_of a in (
         record {

@@ -7,8 +7,8 @@ use borrow.Author.Tests.{le-leb, lt-leb}
 use Rattle.scope.specs.Refusals.{number_of, place_of, kind_number, place_number, Row, first_of, left_by}
 use Rattle.scope.specs.declared.Place.{Place}
 use Rattle.scope.specs.declared.Place.TheVariants.{Slice, Plane, Nothing}
-use Rattle.scope.specs.declared.Answer.{Answer}
-use Rattle.scope.specs.declared.Answer.TheVariants.{Done, Refused}
+use Rattle.scope.specs.Answers.{Answer, done, refused}
+use Rattle.std.specs.Prelude.{Ok, Err}
 use Rattle.scope.proofs.Table.{planes_when, exactly_when}
 use Rattle.refusals.specs.Rows.{Every}
 use Rattle.refusals.proofs.Rows.{every_refused}
@@ -38,20 +38,20 @@ same_place (Plane s) (Slice t) k n = absurd (omega (arith, k))
 same_place (Plane s) (Plane t) k n = ap Plane n
 
 -- an answer whose number is 0 is a success, since no refusal has that number
-number_done : (a : Answer) → Every Numbered a → number_of a ≡ 0 → a ≡ Done
+number_done : (a : Answer) → Every Numbered a → number_of a ≡ 0 → a ≡ done
 unfolding Every
-number_done Done h e = refl
-number_done (Refused n p) h e = absurd (omega (arith, e, h.0))
+number_done (Ok _) h e = refl
+number_done (Err why) h e = absurd (omega (arith, e, h.0))
 
 number_most : (a : Answer) → Every Numbered a → number_of a ≤ 15
 unfolding Every
-number_most Done h = omega arith
-number_most (Refused n p) h = h.1
+number_most (Ok _) h = omega arith
+number_most (Err why) h = h.1
 
 -- an answer with a refusal's number and place is that refusal
-named_refused : (a : Answer) (n : ℕ) (p : Place) → 1 ≤ n → number_of a ≡ n → kind_number (place_of a) ≡ kind_number p → place_number (place_of a) ≡ place_number p → a ≡ Refused n p
-named_refused Done n p l e k m = absurd (omega (arith, l, e))
-named_refused (Refused j q) n p l e k m = rw (e, same_place q p k m)
+named_refused : (a : Answer) (n : ℕ) (p : Place) → 1 ≤ n → number_of a ≡ n → kind_number (place_of a) ≡ kind_number p → place_number (place_of a) ≡ place_number p → a ≡ refused n p
+named_refused (Ok _) n p l e k m = absurd (omega (arith, l, e))
+named_refused (Err why) n p l e k m = rw (e, same_place why.1 p k m)
 
 module _ (rows : List Row) (r : Reply) (e : r ≡ reply_to (first_of rows)) (h : Every Numbered (first_of rows)) where
   number : r.number ≡ number_of (first_of rows)
@@ -63,7 +63,7 @@ module _ (rows : List Row) (r : Reply) (e : r ≡ reply_to (first_of rows)) (h :
   place : r.place ≡ place_number (place_of (first_of rows))
   place = ap (λ (x : Reply). x.place) e
 
-  pub reply_done : r.number ≡ 0 → first_of rows ≡ Done
+  pub reply_done : r.number ≡ 0 → first_of rows ≡ done
   reply_done z = number_done (first_of rows) h (sym number ∙ z)
 
   pub by_table : ByTable rows r
@@ -81,16 +81,16 @@ module _ (rows : List Row) (r : Reply) (e : r ≡ reply_to (first_of rows)) (h :
 -- ---- what is left, by the number
 
 module _ (last : ℕ) (found cleared good : List ℕ) where
-  pub left_done : (a : Answer) → a ≡ Done → left_by last a found cleared good ≡ good
+  pub left_done : (a : Answer) → a ≡ done → left_by last a found cleared good ≡ good
   unfolding left_by
   left_done a e = rw e refl
 
   pub left_found : (a : Answer) → 1 ≤ number_of a → number_of a ≤ last → left_by last a found cleared good ≡ found
   unfolding left_by
-  left_found Done l h = absurd (omega (arith, l))
-  left_found (Refused n p) l h = rw (le-leb n last h)
+  left_found (Ok _) l h = absurd (omega (arith, l))
+  left_found (Err why) l h = rw (le-leb why.0 last h)
 
   pub left_cleared : (a : Answer) → 1 ≤ number_of a → last < number_of a → left_by last a found cleared good ≡ cleared
   unfolding left_by
-  left_cleared Done l h = absurd (omega (arith, l))
-  left_cleared (Refused n p) l h = rw (lt-leb n last h)
+  left_cleared (Ok _) l h = absurd (omega (arith, l))
+  left_cleared (Err why) l h = rw (lt-leb why.0 last h)

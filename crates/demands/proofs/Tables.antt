@@ -11,10 +11,9 @@ use Rattle.scope.specs.Refusals.{number_of, first_of}
 use Rattle.scope.specs.Words.{longest, need, length_of, word_at, Begins}
 use Rattle.scope.specs.Lookup.{table_of, lookup_in}
 use Rattle.scope.specs.Alone.{build_rows, build_answer, workspace_built}
-use Rattle.scope.specs.declared.Found.{Found}
-use Rattle.scope.specs.declared.Found.TheVariants.{Word, NoWord}
-use Rattle.scope.specs.declared.Answer.{Answer}
-use Rattle.scope.specs.declared.Answer.TheVariants.{Done}
+use Rattle.scope.specs.Found.{Found, some_word}
+use Rattle.std.specs.Prelude.{None, Some}
+use Rattle.scope.specs.Answers.{Answer, done}
 use Rattle.refusals.specs.Rows.{Every}
 use Rattle.codes.proofs.Longest.{at_most_longest, longest_most}
 use Rattle.codes.proofs.Words.{prefix_free, word_found, found-begins}
@@ -49,7 +48,7 @@ build_most ls w = by_tests ls w (λ (a : Answer). number_of a ≤ 11) (omega ari
 
 module _ (c : TableCall) (st : TableStated c) where
   module _ (z : c.reply.number ≡ 0) where
-    built : build_answer c.lengths (length c.workspace₀) ≡ Done
+    built : build_answer c.lengths (length c.workspace₀) ≡ done
     unfolding build_answer
     built = reply_done (build_rows c.lengths (length c.workspace₀)) c.reply st.reply (build_numbers c.lengths (length c.workspace₀)) z
 
@@ -74,7 +73,7 @@ module _ (c : TableCall) (st : TableStated c) where
       ∙ left_found 11 c.workspace₀ (zeros c.workspace₀) (table_of c.lengths ++ drop (need c.lengths) c.workspace₀)
       (build_answer c.lengths (length c.workspace₀)) (omega (arith, l, n)) (build_most c.lengths (length c.workspace₀))
 
-  done_reply : build_answer c.lengths (length c.workspace₀) ≡ Done → c.reply.number ≡ 0
+  done_reply : build_answer c.lengths (length c.workspace₀) ≡ done → c.reply.number ≡ 0
   unfolding build_answer
   done_reply e = ap (λ (x : Reply). x.number) st.reply ∙ ap number_of e
 
@@ -111,14 +110,14 @@ table_forgotten_of c d sc sd h =
 -- ---- the lookup
 
 -- of what the word at a position is
-word_of : (ls payload : List ℕ) (at n s : ℕ) → (word_at ls payload at ≡ Word n s) ↔ (Begins ls payload at s × (n ≡ length_of ls s))
-word_of ls payload at n s = (found-begins ls payload at n s, λ h. word_found ls payload at s h.0 ∙ ap (λ (k : ℕ). Word k s) (sym h.1))
+word_of : (ls payload : List ℕ) (at n s : ℕ) → (word_at ls payload at ≡ some_word n s) ↔ (Begins ls payload at s × (n ≡ length_of ls s))
+word_of ls payload at n s = (found-begins ls payload at n s, λ h. word_found ls payload at s h.0 ∙ ap (λ (k : ℕ). some_word k s) (sym h.1))
 
-none_of : (ls payload : List ℕ) (at : ℕ) (f : Found) → word_at ls payload at ≡ f → ((s : ℕ) → Begins ls payload at s → ⊥) → f ≡ NoWord
-none_of ls payload at NoWord e h = refl
-none_of ls payload at (Word n s) e h = absurd (h s (found-begins ls payload at n s e).0)
+none_of : (ls payload : List ℕ) (at : ℕ) (f : Found) → word_at ls payload at ≡ f → ((s : ℕ) → Begins ls payload at s → ⊥) → f ≡ None
+none_of ls payload at None e h = refl
+none_of ls payload at (Some w) e h = absurd (h w.symbol (found-begins ls payload at w.length w.symbol e).0)
 
-word_or_none : (n s : ℕ) → Word n s ≡ NoWord → ⊥
+word_or_none : (n s : ℕ) → some_word n s ≡ None → ⊥
 word_or_none n s e = let z : ◌≡◌ {A = ℕ} 0 1 = cc in omega (arith, z)
 
 pub usable_of : (c : TableCall) (st : TableStated c) (l : LookupCall) → l.found ≡ lookup_in l.words l.longest l.payload l.at

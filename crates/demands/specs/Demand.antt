@@ -3,7 +3,7 @@
 -- demanded of a call; then the calls that each function's contract allows; last, `Demands`: all of them meet the demands, which
 -- proofs/Demand.antt proves (`demands`). A demand's own words stand between “ and ”, document 01's between quotation marks. What is named and
 -- not defined here is document 01, as crates/scope/specs has it. Assumes nothing.
-use Rattle.std.specs.Prelude.{◌≡◌, ◌↔◌, ℕ, ◌-◌, ◌/◌, ◌^◌, ◌≤◌, ◌<◌, Bool, true, not, List, ◌∷◌, length, take, drop, get_or}
+use Rattle.std.specs.Prelude.{◌≡◌, ◌↔◌, ℕ, ◌-◌, ◌/◌, ◌^◌, ◌≤◌, ◌<◌, Bool, true, not, List, ◌∷◌, length, take, drop, get_or, None}
 use contract.Lifetimes.{Lfts}
 use borrow.Fn.World.{ArgsD, ResD}
 use denote.Triple.Clauses.{Ended, AtExit}
@@ -18,17 +18,16 @@ use Rattle.scope.specs.declared.Entry.TheVariants.{Eight, Deep}
 use Rattle.scope.specs.declared.Geometry.{Geometry}
 use Rattle.scope.specs.declared.Place.{Place}
 use Rattle.scope.specs.declared.Place.TheVariants.{Plane, Nothing}
-use Rattle.scope.specs.declared.Found.{Found}
-use Rattle.scope.specs.declared.Found.TheVariants.{Word, NoWord}
-use Rattle.scope.specs.declared.Answer.{Answer}
-use Rattle.scope.specs.declared.Answer.TheVariants.{Done, Refused}
+use Rattle.scope.specs.Found.{Found, some_word}
+use Rattle.scope.specs.Answers.{Answer, done, refused}
 use Rattle.places.specs.Picture.{AllStand, Pictured}
 use Rattle.magicyuv.specs.declared.Reply.{Reply}
-use Rattle.magicyuv.specs.Boundary.{Numbers, numbers, numbers_fit, geometry_of, reply_to, Says}
-use Rattle.decode8.specs.contracts.decode8 as entry8
-use Rattle.decode8.proofs.decode8.Reads as entry8_reads
-use Rattle.decode16.specs.contracts.decode16 as entry16
-use Rattle.decode16.proofs.decode16.Reads as entry16_reads
+use Rattle.magicyuv.specs.declared.numbers.Numbers.{Numbers}
+use Rattle.magicyuv.specs.Boundary.{numbers, numbers_fit, geometry_of, reply_to, Says}
+use Rattle.decode.specs.contracts.decode8 as entry8
+use Rattle.decode.proofs.decode8.Reads as entry8_reads
+use Rattle.decode.specs.contracts.decode16 as entry16
+use Rattle.decode.proofs.decode16.Reads as entry16_reads
 use Rattle.alone.specs.contracts.build as building
 use Rattle.alone.proofs.build.Reads as building_reads
 use Rattle.alone.specs.contracts.read as reading
@@ -94,7 +93,7 @@ pub record ReadCall : Type 0 where
 -- no row before it does. A refusal's number is at least 1 and at most 15, so that 0 means success and nothing else does.
 pub record ByTable (rows : List Row) (reply : Reply) : Type 0 where
   pub success : (reply.number ≡ 0) ↔ NoneApplies rows
-  pub refused : (n : ℕ) (p : Place) → 1 ≤ n → Says (Refused n p) reply ↔ FirstApplies rows n p
+  pub refused : (n : ℕ) (p : Place) → 1 ≤ n → Says (refused n p) reply ↔ FirstApplies rows n p
   pub numbers : (n : ℕ) (p : Place) → FirstApplies rows n p → (1 ≤ n) × (n ≤ 15)
   pub most : reply.number ≤ 15
 
@@ -153,7 +152,7 @@ pub record Demand2 (c : FrameCall) : Type 0 where
   -- the planes, wherever they are handed out
   pub planes : c.reply.number ≡ 0 → c.planes₁ ≡ picture_for c
   -- and they are handed out wherever document 01 refuses nothing
-  pub handed : first_of (table_for c) ≡ Done → (c.reply.number ≡ 0) × (c.planes₁ ≡ picture_for c)
+  pub handed : first_of (table_for c) ≡ done → (c.reply.number ≡ 0) × (c.planes₁ ≡ picture_for c)
   -- "Success .. defines every sample.": there are as many as all planes have, each below 2^depth;
   pub size : c.reply.number ≡ 0 → length c.planes₁ ≡ all_samples c.geometry
   pub below : c.reply.number ≡ 0 → (i : ℕ) → i < all_samples c.geometry → get_or c.planes₁ i 0 < 2 ^ c.geometry.depth
@@ -189,8 +188,8 @@ pub record Demand3Table (c : TableCall) : Type 0 where
 -- "From these and m alone, without the lengths, the lookup finds at a payload's bit position the word that the bits there begin with, its length and
 -- symbol, or none": a lookup in what a table by itself left
 pub record Usable (c : TableCall) (l : LookupCall) : Type 0 where
-  pub word : (n s : ℕ) → (l.found ≡ Word n s) ↔ (Begins c.lengths l.payload l.at s × (n ≡ length_of c.lengths s))
-  pub none : (l.found ≡ NoWord) ↔ ((s : ℕ) → Begins c.lengths l.payload l.at s → ⊥)
+  pub word : (n s : ℕ) → (l.found ≡ some_word n s) ↔ (Begins c.lengths l.payload l.at s × (n ≡ length_of c.lengths s))
+  pub none : (l.found ≡ None) ↔ ((s : ℕ) → Begins c.lengths l.payload l.at s → ⊥)
 
 -- two tables of the same lengths, built in memory of the same size, whatever it held: the same reply, and where they are built the same words within the need
 pub record TablesAlike (c d : TableCall) : Type 0 where
@@ -220,7 +219,7 @@ pub record Demand3Reading (c : ReadCall) : Type 0 where
   -- where there is no such chain it is 14 at plane 0, and both are wholly zero
   pub fails : InCaps c.lengths → shares c.lengths ≤ 262144 → need c.lengths ≤ length c.workspace₀ → length c.samples₀ ≤ 268435456
       → ((ss : Samples) → ChainOf c.lengths c.payload (length c.samples₀) ss → ⊥)
-      → Says (Refused 14 (Plane 0)) c.reply × ((c.samples₁ ≡ zeros c.samples₀) × (c.workspace₁ ≡ zeros c.workspace₀))
+      → Says (refused 14 (Plane 0)) c.reply × ((c.samples₁ ≡ zeros c.samples₀) × (c.workspace₁ ≡ zeros c.workspace₀))
   -- of whatever lengths and workspace: read, hence shares at most one
   pub full : c.reply.number ≡ 0 → shares c.lengths ≤ 262144
   -- the refusals before the reading "leave buffer and workspace as found"; 14 "leaves both wholly zero; success leaves the workspace zero"

@@ -11,10 +11,9 @@ mod put;
 
 ghost use Rattle.std.specs.Prelude.{◌≤◌, ◌<◌, length};
 
-use decode8::decode8;
-use decode16::decode16;
+use decode::{decode8, decode16};
 use frames::SMALL;
-use scope::{Answer, Family, Geometry};
+use scope::{Family, Geometry};
 use std::io;
 
 // A geometry with planes of one size and without fields.
@@ -37,20 +36,12 @@ fn plain(
     }
 }
 
-// One symbol's length; a place past the memory is left out.
-fn set_length(lengths: &mut [u8], high: u8, low: u8, length: u8) {
-    let at = 256 * high as usize + low as usize;
-    if at < lengths.len() {
-        lengths[at] = length;
-    }
-}
-
-// The lengths of a code (coded.rt), in memory that is zero.
-fn set_lengths(code: &[u8], lengths: &mut [u8]) {
-    let mut i = 0;
-    while i < code.len() / 3 {
-        set_length(lengths, code[3 * i], code[3 * i + 1], code[3 * i + 2]);
-        i += 1;
+// The lengths of a code (coded.rt), in memory that is zero; a place past the memory is left out.
+fn set_lengths(code: &[(usize, u8)], lengths: &mut [u8]) {
+    for &(at, length) in code {
+        if let Some(l) = lengths.get_mut(at) {
+            *l = length;
+        }
     }
 }
 
@@ -65,9 +56,9 @@ fn rgb(rt: &impl Print) -> io::Result<()> {
     set_lengths(&coded::RGB, &mut lengths);
     let a = decode8(&frames::RGB, g, &lengths, &mut planes, &mut workspace);
     put::answer(rt, "planes", a)?;
-    put::samples_u8(rt, "\n  G:", &planes[0..16])?;
-    put::samples_u8(rt, "\n  B:", &planes[16..32])?;
-    put::samples_u8(rt, "\n  R:", &planes[32..48])?;
+    put::samples(rt, "\n  G:", &planes[0..16])?;
+    put::samples(rt, "\n  B:", &planes[16..32])?;
+    put::samples(rt, "\n  R:", &planes[32..48])?;
     put::workspace(rt, "\n  workspace", &workspace)
 }
 
@@ -89,9 +80,9 @@ fn yuv(rt: &impl Print) -> io::Result<()> {
     set_lengths(&coded::YUV, &mut lengths);
     let a = decode8(&frames::YUV, g, &lengths, &mut planes, &mut workspace);
     put::answer(rt, "planes", a)?;
-    put::samples_u8(rt, "\n  Y:", &planes[0..24])?;
-    put::samples_u8(rt, "\n  U:", &planes[24..30])?;
-    put::samples_u8(rt, "\n  V:", &planes[30..36])?;
+    put::samples(rt, "\n  Y:", &planes[0..24])?;
+    put::samples(rt, "\n  U:", &planes[24..30])?;
+    put::samples(rt, "\n  V:", &planes[30..36])?;
     put::workspace(rt, "\n  workspace", &workspace)
 }
 
@@ -104,9 +95,28 @@ fn deep(rt: &impl Print) -> io::Result<()> {
     set_lengths(&coded::DEEP, &mut lengths);
     let a = decode16(&frames::DEEP, g, &lengths, &mut planes, &mut workspace);
     put::answer(rt, "planes", a)?;
-    put::samples_u16(rt, "\n  plane 0:", &planes)?;
+    put::samples(rt, "\n  plane 0:", &planes)?;
     put::workspace(rt, "\n  workspace", &workspace)
 }
+
+// What is printed before the samples, and before what is said of the workspace.
+#[derive(Clone, Copy)]
+struct Titles {
+    samples: &'static str,
+    workspace: &'static str,
+}
+
+// On lines of their own.
+const BELOW: Titles = Titles {
+    samples: "\n  plane 0:",
+    workspace: "\n  workspace",
+};
+
+// On the answer's line.
+const BESIDE: Titles = Titles {
+    samples: "; samples",
+    workspace: "; workspace",
+};
 
 // A frame without words, of at most 3 planes and 3 samples.
 fn raw(
@@ -115,30 +125,23 @@ fn raw(
     g: Geometry,
     planes: &mut [u8],
     lengths: usize,
-    samples_title: &str,
-    words_title: &str,
+    titles: Titles,
 ) -> io::Result<()>
     requires { lengths ≤ 768 }
 {
     let mut workspace = [9u32; 4];
     let a = decode8(frame, g, &coded::NONE[0..lengths], planes, &mut workspace);
     put::answer(rt, "planes", a)?;
-    put::samples_u8(rt, samples_title, planes)?;
-    put::workspace(rt, words_title, &workspace)
+    put::samples(rt, titles.samples, planes)?;
+    put::workspace(rt, titles.workspace, &workspace)
 }
 
 // Document 01's frame, or a part or a spoiled form of it.
-fn gray(
-    rt: &impl Print,
-    title: &str,
-    frame: &[u8],
-    samples_title: &str,
-    words_title: &str,
-) -> io::Result<()> {
+fn gray(rt: &impl Print, title: &str, frame: &[u8], titles: Titles) -> io::Result<()> {
     let mut planes = [170u8; 2];
     let g = plain(Family::Gray, 2, 1, 1, 8);
     rt.print(title)?;
-    raw(rt, frame, g, &mut planes, 256, samples_title, words_title)
+    raw(rt, frame, g, &mut planes, 256, titles)
 }
 
 fn built_in(rt: &impl Print) -> io::Result<()> {
@@ -146,16 +149,9 @@ fn built_in(rt: &impl Print) -> io::Result<()> {
         rt,
         "Gray 2x1, 8 bits, the frame of 46 bytes: ",
         &SMALL,
-        "\n  plane 0:",
-        "\n  workspace",
+        BELOW,
     )?;
-    gray(
-        rt,
-        "the same, cut to 45 bytes: ",
-        &SMALL[0..45],
-        "\n  plane 0:",
-        "\n  workspace",
-    )?;
+    gray(rt, "the same, cut to 45 bytes: ", &SMALL[0..45], BELOW)?;
     rt.print("Rgb 4x4, 8 bits, slices of planes 1 0 2 2 1 0: ")?;
     rgb(rt)?;
     rt.print("Yuv 4:2:0 4x6, 8 bits, interlaced, slices of planes 0 2 1 1 0 2: ")?;
@@ -180,8 +176,8 @@ fn build_in(
     let a = alone::build(lengths, &mut workspace[0..lent]);
     put::answer(rt, "built", a)?;
     match a {
-        Answer::Refused(n, p) => put::workspace(rt, "; workspace", workspace),
-        Answer::Done => put::workspace(rt, "; past the need", &workspace[need..]),
+        Err(_) => put::workspace(rt, "; workspace", workspace),
+        Ok(()) => put::workspace(rt, "; past the need", &workspace[need..]),
     }
 }
 
@@ -203,7 +199,7 @@ fn read_in(
 ) -> io::Result<()> {
     let a = alone::read(lengths, payload, workspace, samples);
     put::answer(rt, "read", a)?;
-    put::samples_u16(rt, "; samples", samples)?;
+    put::samples(rt, "; samples", samples)?;
     put::workspace(rt, "; workspace", workspace)
 }
 
@@ -222,14 +218,14 @@ fn spoiled(rt: &impl Print, title: &str, at: usize, byte: u8) -> io::Result<()>
 {
     let mut frame = SMALL;
     frame[at] = byte;
-    gray(rt, title, &frame, "; samples", "; workspace")
+    gray(rt, title, &frame, BESIDE)
 }
 
 fn dot(rt: &impl Print, title: &str, frame: &[u8]) -> io::Result<()> {
     let mut planes = [170u8; 3];
     let g = plain(Family::Rgb, 1, 1, 1, 8);
     rt.print(title)?;
-    raw(rt, frame, g, &mut planes, 768, "; samples", "; workspace")
+    raw(rt, frame, g, &mut planes, 768, BESIDE)
 }
 
 // Needs: one word fewer is refused.
@@ -301,20 +297,8 @@ fn words(rt: &impl Print) -> io::Result<()> {
 
 // Whole frames.
 fn whole(rt: &impl Print) -> io::Result<()> {
-    gray(
-        rt,
-        "the frame of 46 bytes: ",
-        &SMALL,
-        "; samples",
-        "; workspace",
-    )?;
-    gray(
-        rt,
-        "cut to 45 bytes: ",
-        &SMALL[0..45],
-        "; samples",
-        "; workspace",
-    )?;
+    gray(rt, "the frame of 46 bytes: ", &SMALL, BESIDE)?;
+    gray(rt, "cut to 45 bytes: ", &SMALL[0..45], BESIDE)?;
     spoiled(rt, "predictor byte 0: ", 43, 0)?;
     spoiled(rt, "entry 1 of 7: ", 36, 7)?;
     spoiled(rt, "entry 1 of 8: ", 36, 8)?;

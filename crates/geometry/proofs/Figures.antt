@@ -3,7 +3,6 @@
 use mathlib.Core.Path.{◌≡◌, refl}
 use mathlib.Core.Bool.{Bool, true, false}
 use Prim.Native.Nat.{ℕ, zero, suc, ◌+◌, ◌-◌, ◌*◌, ◌%◌, ◌^◌, ◌≤◌, ◌<◌, min}
-use native.Mathlib.Nat.{mul-le-mul}
 use native.Mathlib.Numerals.{add-one}
 use native.Mathlib.Omega.{arith}
 use mir.Syntax.{w64}
@@ -20,7 +19,7 @@ use Rattle.scope.specs.Geometry.{subsampled, correlated, plane_count, slices_per
 use Rattle.scope.specs.declared.Geometry.{Geometry}
 use Rattle.lists.proofs.Tests.{told_yes, told_no, test_yes, test_no}
 use Rattle.geometry.specs.Sound.{Sound}
-use Rattle.geometry.proofs.Places.{width_fits, height_fits, slice_height_fits, planes_most, planes_some, place_checked, order}
+use Rattle.geometry.proofs.Places.{width_fits, height_fits, slice_height_fits, planes_most, place_checked, order}
 use Rattle.lists.proofs.Numbers.{part_some, part_most, product_most}
 use Rattle.within.proofs.Within.{place_begins}
 
@@ -191,18 +190,6 @@ module _ (g : Geometry) (p row at w : ℕ) (ok : Sound g) (lh : row ≤ plane_he
   row_most l = omega (arith, samples_most row w row_cap lw)
 
 -- ---- slices
-
--- T fits 64 bits
-pub count_fits : (g : Geometry) (p k : ℕ) → p ≡ plane_count g → k ≤ 16384 → Fits w64 (p * k)
-count_fits g p k e h = record { fits = omega (arith, product_most p k 4 16384 (few_planes g p e) h) }
-
--- T is at most 65,536
-pub count_most : (g : Geometry) (p k : ℕ) → p ≡ plane_count g → k ≤ 16384 → p * k ≤ 65536
-count_most g p k e h = product_most p k 4 16384 (few_planes g p e) h
-
--- T is at least 1
-pub count_some : (g : Geometry) (p k : ℕ) → p ≡ plane_count g → 1 ≤ k → 1 ≤ p * k
-count_some g p k e h = rw e (mul-le-mul (planes_some g.family) h)
 
 module _ (g : Geometry) (p k b : ℕ) (ok : Sound g) (lk : k < slices_per_plane g) (eb : b ≡ plane_slice_height g p) where
   -- the place's first row

@@ -1,18 +1,14 @@
 -- Plane p's lengths as a part of those lent, n for each plane (document 01, "Lengths: 2^depth bytes a plane, planes in wire
--- order"): which part it is, that it lies within them, and that its ends are small. Assumes nothing.
+-- order"): which part it is, that it lies within them, and that it is of at most 16,384. Assumes nothing.
 use mathlib.Core.Path.{◌≡◌}
 use Prim.Native.Nat.{ℕ, ◌+◌, ◌-◌, ◌*◌, ◌^◌, ◌≤◌, ◌<◌}
 use native.Mathlib.Nat.{mul-le-mul_right, suc-mul}
 use native.Mathlib.Omega.{arith}
 use mathlib.Core.List.{List}
-use mir.Syntax.{w64}
-use mir.Val.{Fits}
 use lib.ListN.{length, take, drop, length-take}
 use Rattle.scope.specs.Geometry as geo
 use Rattle.scope.specs.Geometry.{plane_count, lengths_of}
 use Rattle.scope.specs.declared.Geometry.{Geometry}
-use Rattle.geometry.proofs.Places.{planes_most}
-use Rattle.lists.proofs.Numbers.{product_most}
 
 module _ (g : Geometry) (lengths : List ℕ) (p n : ℕ) where
   -- the part is plane p's lengths
@@ -31,15 +27,3 @@ module _ (g : Geometry) (lengths : List ℕ) (p n : ℕ) where
 -- it has at most 16,384 lengths
 pub part_few : (lengths : List ℕ) (p n : ℕ) → n ≤ 16384 → length (take (p * n + n - p * n) (drop (p * n) lengths)) ≤ 16384
 part_few lengths p n h = omega (arith, length-take (p * n + n - p * n) (drop (p * n) lengths))
-
-module _ (g : Geometry) (p n : ℕ) (l : p < plane_count g) (h : n ≤ 16384) where
-  before : p * n ≤ 4 * 16384
-  before = product_most p n 4 16384 (omega (arith, l, planes_most g.family)) h
-
-  -- its start fits 64 bits
-  pub part_start_fits : Fits w64 (p * n)
-  part_start_fits = record { fits = omega (arith, before) }
-
-  -- and so does its end
-  pub part_end_fits : Fits w64 (p * n + n)
-  part_end_fits = record { fits = omega (arith, before, h) }

@@ -10,7 +10,7 @@ use Rattle.scope.specs.Geometry.{planes_of, subsampled, correlated, plane_count,
 use Rattle.scope.specs.declared.Family.{Family}
 use Rattle.scope.specs.declared.Family.TheVariants.{Gray, Rgb, Yuv, Rgba, Yuva}
 use Rattle.scope.specs.declared.Geometry.{Geometry}
-use Rattle.lists.proofs.Numbers.{part_some, part_most, enough}
+use Rattle.lists.proofs.Numbers.{part_some, part_most}
 use Rattle.within.specs.Within.{PlaceChecked}
 use Rattle.within.proofs.Within.{place_begins, no_place_beyond}
 use Rattle.geometry.specs.Sound.{Sound}
@@ -49,14 +49,6 @@ planes_most Yuv = omega arith
 planes_most Rgba = omega arith
 planes_most Yuva = omega arith
 
--- and at least one
-pub planes_some : (f : Family) → 1 ≤ planes_of f
-planes_some Gray = omega arith
-planes_some Rgb = omega arith
-planes_some Yuv = omega arith
-planes_some Rgba = omega arith
-planes_some Yuva = omega arith
-
 -- ---- places
 
 module _ (g : Geometry) (ok : Sound g) where
@@ -71,14 +63,6 @@ module _ (g : Geometry) (ok : Sound g) where
       let l : g.height ≤ g.height * b = omega (arith, mul-le-mul_left g.height ok.sliced.0) in
       let k : slices_per_plane g < suc g.height = (div-lt_iff_lt-mul ok.sliced.0).1 (omega (arith, suc-mul g.height b, ok.sliced.0)) in
       omega (arith, ok.tall.1)
-
-  -- K is at least 1
-  pub slices_some : 1 ≤ slices_per_plane g
-  slices_some = go (slices_per_plane g) refl
-    where
-      go : (k : ℕ) → slices_per_plane g ≡ k → 1 ≤ k
-      go zero e = omega (arith, enough g.height g.slice_height ok.sliced.0, ap (λ (y : ℕ). y * g.slice_height) e, zero-mul g.slice_height, ok.tall.0)
-      go (suc k) e = omega arith
 
   -- T is at most 65,536
   pub slice_count_most : slice_count g ≤ 65536

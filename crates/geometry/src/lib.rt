@@ -1,10 +1,19 @@
-// Document 01, "What comes in": what a family and a depth say by themselves. The laws of all figures of a geometry stand in proofs/.
+// Document 01, "What comes in": what a family and a depth say by themselves, and the type of a geometry that refusals 1 to 3 left. The
+// laws of all figures of a geometry stand in proofs/.
 #![tactic(auto)]
 
 ghost use Rattle.std.specs.Prelude.{◌≡◌, ◌≤◌, ◌^◌};
 ghost use Rattle.scope.specs.Geometry.{planes_of, subsampled, correlated, fields};
+ghost use Rattle.geometry.specs.Sound.{Sound};
 
 use scope::{Family, Geometry};
+
+// A geometry that refusals 1 to 3 left.
+#[derive(Clone, Copy)]
+pub struct SoundGeometry {
+    pub of: Geometry,
+    pub ghost sound: { Sound of },
+}
 
 // P
 pub fn plane_count(f: Family) -> usize

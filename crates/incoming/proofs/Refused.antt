@@ -17,8 +17,9 @@ use Rattle.scope.specs.declared.Family.{Family}
 use Rattle.scope.specs.declared.Geometry.{Geometry}
 use Rattle.scope.specs.declared.Place.{Place}
 use Rattle.scope.specs.declared.Place.TheVariants.{Nothing}
-use Rattle.scope.specs.declared.Answer.{Answer}
-use Rattle.scope.specs.declared.Answer.TheVariants.{Done, Refused}
+use Rattle.scope.specs.declared.Refusal.{Refusal}
+use Rattle.std.specs.Prelude.{Err}
+use Rattle.scope.specs.Answers.{Answer, done, refused}
 use Rattle.scope.specs.Pieces.{lent_checks}
 use Rattle.scope.specs.declared.Entry.{Entry}
 use Rattle.scope.specs.declared.Entry.TheVariants.{Eight, Deep}
@@ -164,7 +165,7 @@ fitting which g e =
 
 module _ (which : Entry) (g : Geometry) where
   -- refusal 1
-  pub shape_1 : (r : Bool) → r ≡ geometry_fits which g → not r ≡ true → Refused 1 Nothing ≡ shape_checks which g
+  pub shape_1 : (r : Bool) → r ≡ geometry_fits which g → not r ≡ true → refused 1 Nothing ≡ shape_checks which g
   unfolding steps.shape_checks
   shape_1 r e t = rw (no_is r _ e t)
 
@@ -178,24 +179,24 @@ module _ (which : Entry) (g : Geometry) where
     down_some = (fitting which g (yes_is a _ ea ta)).down.0
 
     -- refusal 2 of the width
-    pub shape_2w : (r : Bool) → r ≡ eqb (g.width % g.sx) 0 → not r ≡ true → Refused 2 Nothing ≡ shape_checks which g
+    pub shape_2w : (r : Bool) → r ≡ eqb (g.width % g.sx) 0 → not r ≡ true → refused 2 Nothing ≡ shape_checks which g
     unfolding steps.shape_checks geo.factors_divide
     shape_2w r e t = rw (yes_is a _ ea ta, no_is r _ e t)
 
     module _ (b : Bool) (eb : b ≡ eqb (g.width % g.sx) 0) (tb : not b ≡ false) where
       -- refusal 2 of the height
-      pub shape_2h : (r : Bool) → r ≡ eqb (g.height % g.sy) 0 → not r ≡ true → Refused 2 Nothing ≡ shape_checks which g
+      pub shape_2h : (r : Bool) → r ≡ eqb (g.height % g.sy) 0 → not r ≡ true → refused 2 Nothing ≡ shape_checks which g
       unfolding steps.shape_checks geo.factors_divide
       shape_2h r e t = rw (yes_is a _ ea ta, yes_is b _ eb tb, no_is r _ e t)
 
       module _ (d : Bool) (ed : d ≡ eqb (g.height % g.sy) 0) (td : not d ≡ false) where
         -- refusal 3
-        pub shape_3 : (r : Bool) → r ≡ eqb (g.slice_height % g.sy) 0 → not r ≡ true → Refused 3 Nothing ≡ shape_checks which g
+        pub shape_3 : (r : Bool) → r ≡ eqb (g.slice_height % g.sy) 0 → not r ≡ true → refused 3 Nothing ≡ shape_checks which g
         unfolding steps.shape_checks geo.factors_divide geo.slice_height_divides
         shape_3 r e t = rw (yes_is a _ ea ta, yes_is b _ eb tb, yes_is d _ ed td, no_is r _ e t)
 
         -- none of the three
-        pub shape_0 : (r : Bool) → r ≡ eqb (g.slice_height % g.sy) 0 → not r ≡ false → Done ≡ shape_checks which g
+        pub shape_0 : (r : Bool) → r ≡ eqb (g.slice_height % g.sy) 0 → not r ≡ false → done ≡ shape_checks which g
         unfolding steps.shape_checks geo.factors_divide geo.slice_height_divides
         shape_0 r e t = rw (yes_is a _ ea ta, yes_is b _ eb tb, yes_is d _ ed td, yes_is r _ e t)
 
@@ -204,10 +205,10 @@ pub ruleset shapes = (shape_1, shape_2w, shape_2h, shape_3, shape_0, across_some
 -- ---- what a geometry is that passed them
 
 -- a test that refused nothing where it is false is true
-passed : (t : Bool) (n : ℕ) (w : Place) → Done ≡ refuse_if (not t) n w → t ≡ true
+passed : (t : Bool) (n : ℕ) (w : Place) → done ≡ refuse_if (not t) n w → t ≡ true
 passed t n w e = not-false t (if_passed (not t) n w e)
 
-module _ (which : Entry) (g : Geometry) (e : Done ≡ shape_checks which g) where
+module _ (which : Entry) (g : Geometry) (e : done ≡ shape_checks which g) where
   one : Answer
   one = refuse_if (not (geometry_fits which g)) 1 Nothing
 
@@ -251,7 +252,7 @@ module _ (which : Entry) (g : Geometry) (e : Done ≡ shape_checks which g) wher
   shape_depth = fit.depth
 
 -- the same as the code has it
-pub sound_told : (which : Entry) (g : Geometry) (r : Answer) → r ≡ shape_checks which g → r ≡ Done → Sound g
+pub sound_told : (which : Entry) (g : Geometry) (r : Answer) → r ≡ shape_checks which g → r ≡ done → Sound g
 sound_told which g r e h = shape_sound which g (sym h ∙ e)
 
 -- ---- refusal 4
@@ -265,18 +266,18 @@ module _ (g : Geometry) (lengths_len planes_len p n : ℕ) (ep : p ≡ plane_cou
   lens = rw (ep, en)
 
   -- refusal 4 of the lengths
-  pub size_4l : (lengths_len ≡ p * n → ⊥) → Refused 4 Nothing ≡ size_checks g lengths_len planes_len
+  pub size_4l : (lengths_len ≡ p * n → ⊥) → refused 4 Nothing ≡ size_checks g lengths_len planes_len
   unfolding steps.size_checks
   size_4l ne = rw (← lens, ne_eqb lengths_len (p * n) ne)
 
   module _ (el : lengths_len ≡ p * n) (q : ℕ) (eq : q ≡ all_samples g) where
     -- refusal 4 of the plane buffer
-    pub size_4p : (planes_len ≡ q → ⊥) → Refused 4 Nothing ≡ size_checks g lengths_len planes_len
+    pub size_4p : (planes_len ≡ q → ⊥) → refused 4 Nothing ≡ size_checks g lengths_len planes_len
     unfolding steps.size_checks
     size_4p ne = rw (← lens, eq-eqb lengths_len (p * n) el, ← eq, ne_eqb planes_len q ne)
 
     -- neither
-    pub size_0 : planes_len ≡ q → Done ≡ size_checks g lengths_len planes_len
+    pub size_0 : planes_len ≡ q → done ≡ size_checks g lengths_len planes_len
     unfolding steps.size_checks
     size_0 h = rw (← lens, eq-eqb lengths_len (p * n) el, ← eq, eq-eqb planes_len q h)
 
@@ -300,14 +301,14 @@ module _ (which : Entry) (g : Geometry) (lengths_len planes_len : ℕ) where
       go true true true s = refl
 
   -- a refusal of the first step is the answer; else the second step gives it
-  pub lent_early : (a : Answer) (n : ℕ) (w : Place) → a ≡ shape_checks which g → a ≡ Refused n w → Refused n w ≡ lent_checks which g lengths_len planes_len
-  lent_early a n w e h = rw (lent_steps, ← e, h)
+  pub lent_early : (a : Answer) (why : Refusal) → a ≡ shape_checks which g → a ≡ Err why → Err why ≡ lent_checks which g lengths_len planes_len
+  lent_early a why e h = rw (lent_steps, ← e, h)
 
   -- the second step's answer is the answer
-  pub lent_late : (a b : Answer) → a ≡ shape_checks which g → a ≡ Done → b ≡ size_checks g lengths_len planes_len → b ≡ lent_checks which g lengths_len planes_len
+  pub lent_late : (a b : Answer) → a ≡ shape_checks which g → a ≡ done → b ≡ size_checks g lengths_len planes_len → b ≡ lent_checks which g lengths_len planes_len
   lent_late a b e h k = rw (lent_steps, ← e, h) k
 
-  module _ (e : Done ≡ lent_checks which g lengths_len planes_len) where
+  module _ (e : done ≡ lent_checks which g lengths_len planes_len) where
     -- what is known once none of 1 to 4 applies: the geometry is sound, and of a depth that the entry serves
     pub lent_sound : Sound g
     lent_sound = shape_sound which g (first_passed (shape_checks which g) _ (e ∙ lent_steps))

@@ -5,7 +5,7 @@ use Rattle.scope.specs.Geometry.{geometry_fits, factors_divide, slice_height_div
 use Rattle.scope.specs.declared.Entry.{Entry}
 use Rattle.scope.specs.declared.Geometry.{Geometry}
 use Rattle.scope.specs.declared.Place.TheVariants.{Nothing}
-use Rattle.scope.specs.declared.Answer.{Answer}
+use Rattle.scope.specs.Answers.{Answer}
 
 -- refusals 1 to 3: the geometry by itself
 unfoldable pub shape_checks : (which : Entry) (g : Geometry) → Answer

@@ -4,11 +4,10 @@
 ghost use Rattle.std.specs.Prelude.{◌≡◌, ◌%◌, ◌≤◌, eqb};
 ghost use Rattle.scope.specs.Geometry.{size_fits, factor_fits, depth_fits, geometry_fits};
 ghost use Rattle.scope.specs.Pieces.{lent_checks};
-ghost use Rattle.geometry.specs.Sound.{Sound};
 ghost use Rattle.incoming.specs.Steps.{shape_checks, size_checks};
 
-use geometry::{is_subsampled, plane_count, symbol_count};
-use scope::{Answer, Entry, Family, Geometry, Place};
+use geometry::{SoundGeometry, is_subsampled, plane_count, symbol_count};
+use scope::{Answer, Entry, Family, Geometry, Place, Refusal};
 use stretches::all_elements;
 
 // "each 1 to 16,384"
@@ -87,44 +86,40 @@ fn check_shape(which: Entry, g: Geometry) -> Answer
     ensures { result ≡ shape_checks which g }
 {
     if !geometry_fits(which, g) {
-        return Answer::Refused(1, Place::Nothing);
+        return Err(Refusal(1, Place::Nothing));
     }
     if !divides(g.sx, g.width) {
-        return Answer::Refused(2, Place::Nothing);
+        return Err(Refusal(2, Place::Nothing));
     }
     if !divides(g.sy, g.height) {
-        return Answer::Refused(2, Place::Nothing);
+        return Err(Refusal(2, Place::Nothing));
     }
     if !divides(g.sy, g.slice_height) {
-        return Answer::Refused(3, Place::Nothing);
+        return Err(Refusal(3, Place::Nothing));
     }
-    Answer::Done
+    Ok(())
 }
 
-// Refusal 4.
-fn check_sizes(g: Geometry, lengths: usize, planes: usize) -> Answer
-    requires { Sound g }
-    ensures { result ≡ size_checks g lengths planes }
+// Refusal 4, of a geometry that 1 to 3 left.
+fn check_sizes(g: SoundGeometry, lengths: usize, planes: usize) -> Answer
+    ensures { result ≡ size_checks g.of lengths planes }
 {
-    let f = g.family;
+    let f = g.of.family;
     let p = plane_count(f);
-    let n = symbol_count(g.depth);
+    let n = symbol_count(g.of.depth);
     if lengths != p * n {
-        return Answer::Refused(4, Place::Nothing);
+        return Err(Refusal(4, Place::Nothing));
     }
     if planes != all_elements(g) {
-        return Answer::Refused(4, Place::Nothing);
+        return Err(Refusal(4, Place::Nothing));
     }
-    Answer::Done
+    Ok(())
 }
 
 // The first of refusals 1 to 4.
 pub fn lent_checks(which: Entry, g: Geometry, lengths: usize, planes: usize) -> Answer
     ensures { result ≡ lent_checks which g lengths planes }
 {
-    let a = check_shape(which, g);
-    match a {
-        Answer::Refused(n, w) => Answer::Refused(n, w),
-        Answer::Done => check_sizes(g, lengths, planes),
-    }
+    check_shape(which, g)?;
+    check_sizes(SoundGeometry { of: g }, lengths, planes)
 }

@@ -11,8 +11,7 @@ use borrow.Author.Rules.{rules}
 use borrow.Author.Tests.{lt-ltb, le-ltb, le-leb, lt-leb}
 use Rattle.scope.specs.Bits.{window}
 use Rattle.scope.specs.Lookup.{lookup_in}
-use Rattle.scope.specs.declared.Found.{Found}
-use Rattle.scope.specs.declared.Found.TheVariants.{Word}
+use Rattle.scope.specs.Found.{Found, some_word}
 use Rattle.lookup.proofs.Looking.{says_word, looks_short, looks_second, looks_first}
 use Rattle.kept.specs.Kept.{Shows, up_to, entry_in, Told}
 
@@ -80,12 +79,12 @@ module _ (words payload : List ℕ) (m at w : ℕ) (n : 0 < m) (a : m ≤ 18) (x
   slot : (j : ℕ) → min m 12 ≡ j → j ≤ m → w / 2 ^ (64 - min m 12) ≡ window payload at j
   slot j e h = rw e (x.head j h)
 
-  first_word : (first % 256 ≡ 0 → ⊥) → first % 256 ≤ m → Dec (m ≤ 12) → Word (first % 256) (first / 256) ≡ lookup_in words m payload at
+  first_word : (first % 256 ≡ 0 → ⊥) → first % 256 ≤ m → Dec (m ≤ 12) → some_word (first % 256) (first / 256) ≡ lookup_in words m payload at
   first_word s l (yes h) = looks_short words m payload at _ _ first a some h (slot m (omega arith) (omega arith)) refl (says_word first s)
   first_word s l (no h) =
       looks_first words m payload at _ first a some (over h) (slot 12 (omega (arith, over h)) (omega (arith, over h))) refl _ (λ k. omega arith) (says_word first s)
 
-  second_word : 12 < m → first % 256 ≡ 255 → (second % 256 ≡ 0 → ⊥) → Word (second % 256) (second / 256) ≡ lookup_in words m payload at
+  second_word : 12 < m → first % 256 ≡ 255 → (second % 256 ≡ 0 → ⊥) → some_word (second % 256) (second / 256) ≡ lookup_in words m payload at
   second_word h k s =
       looks_second words m payload at _ first a some h (slot 12 (omega arith) (omega arith)) refl _ _ second k (x.head m (omega arith)) refl (says_word second s)
 

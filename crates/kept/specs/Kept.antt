@@ -4,8 +4,7 @@ use Rattle.std.specs.Prelude.{◌≡◌, ℕ, ◌+◌, ◌-◌, ◌*◌, ◌/◌
 use Rattle.scope.specs.Base.{Bytes, Samples, Words}
 use Rattle.scope.specs.Bits.{window}
 use Rattle.scope.specs.Lookup.{lookup_in}
-use Rattle.scope.specs.declared.Found.{Found}
-use Rattle.scope.specs.declared.Found.TheVariants.{Word}
+use Rattle.scope.specs.Found.{Found, some_word}
 use Rattle.codes.specs.Reading.{Readable, Began}
 
 -- 64 bits: those of the payload from a position on, and d zeros behind them
@@ -54,4 +53,4 @@ entry_in words m w =
 -- what an entry tells of a word that is found: it is no longer than m, and where its low byte is not 0 it is that word
 pub record Told (found : Found) (m e : ℕ) : Type 0 where
   pub most : e % 256 ≤ m
-  pub word : (e % 256 ≡ 0 → ⊥) → found ≡ Word (e % 256) (e / 256)
+  pub word : (e % 256 ≡ 0 → ⊥) → found ≡ some_word (e % 256) (e / 256)

@@ -14,9 +14,9 @@ use Rattle.scope.specs.Layout.{plane_index, named_before}
 use Rattle.geometry.specs.Sound.{Sound}
 use Rattle.layout.specs.Placed.{Placed}
 use Rattle.scope.specs.declared.Geometry.{Geometry}
-use Rattle.scope.specs.declared.Place.{Place}
-use Rattle.scope.specs.declared.Answer.{Answer}
-use Rattle.scope.specs.declared.Answer.TheVariants.{Done, Refused}
+use Rattle.scope.specs.declared.Refusal.{Refusal}
+use Rattle.std.specs.Prelude.{Err}
+use Rattle.scope.specs.Answers.{Answer, done}
 use Rattle.scope.specs.Pieces.{in_order, index_check}
 use Rattle.geometry.proofs.Places.{planes_most, slices_most}
 use Rattle.refusals.proofs.Rows.{index_below, index_room}
@@ -25,14 +25,14 @@ use Rattle.layout.proofs.Slices.{Counted, counted_start, counted_more}
 
 pub record Going (f : ℕ → Answer) (frame : List ℕ) (g : Geometry) (t : ℕ) (seen : List ℕ) (s : ℕ) : Type 0 where
   pub counted : Counted frame g seen s
-  pub passed : Done ≡ in_order s f
+  pub passed : done ≡ in_order s f
   pub within : s ≤ t
   pub slices_are : t ≡ slice_count g
-  pub checked : Done ≡ in_order (slice_count g) (index_check frame g)
+  pub checked : done ≡ in_order (slice_count g) (index_check frame g)
 
 module _ (f : ℕ → Answer) (frame : List ℕ) (g : Geometry) (t : ℕ) where
   -- before the first slice
-  pub going_start : t ≡ slice_count g → Done ≡ in_order (slice_count g) (index_check frame g) → Going f frame g t (0 ∷ 0 ∷ 0 ∷ 0 ∷ []) 0
+  pub going_start : t ≡ slice_count g → done ≡ in_order (slice_count g) (index_check frame g) → Going f frame g t (0 ∷ 0 ∷ 0 ∷ 0 ∷ []) 0
   going_start et ck =
       record { counted = counted_start frame g; passed = none_yet f; within = omega arith; slices_are = et; checked = ck }
 
@@ -42,11 +42,11 @@ module _ (f : ℕ → Answer) (frame : List ℕ) (g : Geometry) (t : ℕ) where
     going_last h = omega (arith, w.within, w.slices_are)
 
     -- all checks passed
-    pub going_done : t ≤ s → Done ≡ in_order (slice_count g) f
+    pub going_done : t ≤ s → done ≡ in_order (slice_count g) f
     going_done h = rw (going_last h) at w.passed
 
     module _ (p : ℕ) (ls : s < t) (ei : p ≡ plane_index frame g s) where
-      fine : Done ≡ index_check frame g s
+      fine : done ≡ index_check frame g s
       fine = each_passed (index_check frame g) (slice_count g) s w.checked (rw w.slices_are at ls)
 
       -- slice s names a plane
@@ -79,7 +79,7 @@ module _ (f : ℕ → Answer) (frame : List ℕ) (g : Geometry) (t : ℕ) where
 
       module _ (r : Answer) (er : r ≡ f s) where
         -- check s passed
-        pub going_step : r ≡ Done → Going f frame g t (set seen p (get_or seen p 0 + 1)) (s + 1)
+        pub going_step : r ≡ done → Going f frame g t (set seen p (get_or seen p 0 + 1)) (s + 1)
         going_step ed =
             record {
               counted = counted_more frame g seen s p ei going_four w.counted;
@@ -90,7 +90,7 @@ module _ (f : ℕ → Answer) (frame : List ℕ) (g : Geometry) (t : ℕ) where
             }
 
         -- check s refuses
-        pub going_refused : (n : ℕ) (pl : Place) → r ≡ Refused n pl → Refused n pl ≡ in_order (slice_count g) f
-        going_refused n pl h = one_refused f (slice_count g) s n pl (rw w.slices_are at ls) w.passed (sym h ∙ er)
+        pub going_refused : (why : Refusal) → r ≡ Err why → Err why ≡ in_order (slice_count g) f
+        going_refused why h = one_refused f (slice_count g) s why.0 why.1 (rw w.slices_are at ls) w.passed (sym h ∙ er)
 
 pub ruleset goes = (going_start, going_done, going_placed, going_four, going_scaled, going_fits, going_step, going_refused, rules)

@@ -3,7 +3,6 @@ use mathlib.Core.Path.{◌≡◌}
 use mathlib.Core.Bool.{Bool}
 use mathlib.Core.List.{List}
 use Prim.Native.Nat.{ℕ, ◌+◌, ◌*◌, ◌%◌, ◌≤◌, ◌<◌}
-use native.Mathlib.Omega.{arith}
 use borrow.Author.Tests.{lt-ltb, le-ltb}
 use lib.Dec.{eqb}
 use lib.ListN.{length, get_or}
@@ -11,20 +10,12 @@ use Rattle.scope.specs.Geometry.{slice_count, plane_width, plane_height, plane_s
 use Rattle.scope.specs.Layout as lay
 use Rattle.scope.specs.Layout.{le32, preamble_end, count_byte, plane_index, place_in_plane, slice_start, slice_end, slice_at}
 use Rattle.geometry.specs.Sound.{Sound}
-use Rattle.geometry.proofs.Places.{slice_count_most, place_checked}
-use Rattle.geometry.proofs.Figures.{first_fits}
+use Rattle.geometry.proofs.Places.{place_checked}
 use Rattle.within.specs.Within.{InPlane}
 use Rattle.within.proofs.Within.{place_begins}
 use Rattle.layout.specs.Placed.{Placed}
-use mir.Syntax.{w64}
-use mir.Val.{Fits}
 use Rattle.scope.specs.declared.Geometry.{Geometry}
 use Rattle.scope.specs.declared.SliceAt.{SliceAt}
-
--- four bytes, the lowest first
-pub le32_is : (frame : List ℕ) (at a b c d : ℕ) → a ≡ get_or frame at 0 → b ≡ get_or frame (at + 1) 0 → c ≡ get_or frame (at + 2) 0 → d ≡ get_or frame (at + 3) 0 → a + 256 * b + 65536 * c + 16777216 * d ≡ le32 frame at
-unfolding lay.le32
-le32_is frame at a b c d ea eb ec ed = rw (ea, eb, ec, ed)
 
 module _ (frame : List ℕ) (g : Geometry) (s : ℕ) where
   -- a slice's start
@@ -59,18 +50,10 @@ index_is frame g t s r e h = rw e at h
 
 -- ---- a slice as one record
 
--- a slice's number is below 65,536
-pub slice_small : (g : Geometry) (s : ℕ) → Sound g → s < slice_count g → s < 65536
-slice_small g s ok l = omega (arith, l, slice_count_most g ok)
-
 module _ (frame : List ℕ) (g : Geometry) (s p k : ℕ) (pl : Placed frame g s p k) where
   place_is : k ≡ place_in_plane frame g s
   unfolding lay.place_in_plane
   place_is = rw (← pl.plane) pl.place
-
-  -- the place's first row is a number of 64 bits
-  pub first_row_fits : (height : ℕ) → Sound g → height ≡ plane_slice_height g p → Fits w64 (k * height)
-  first_row_fits height ok eh = first_fits g p k height ok pl.place_below eh
 
   -- the rows of its record lie in its plane
   pub record_in_plane : Sound g → (a : SliceAt) → a ≡ slice_at frame g s → InPlane (plane_height g a.plane) a.first a.rows

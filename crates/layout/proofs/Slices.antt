@@ -14,7 +14,7 @@ use Rattle.scope.specs.Geometry.{plane_count, slices_per_plane, slice_count}
 use Rattle.scope.specs.Layout as lay
 use Rattle.scope.specs.Layout.{plane_index, named_before}
 use Rattle.scope.specs.declared.Geometry.{Geometry}
-use Rattle.scope.specs.declared.Answer.TheVariants.{Done}
+use Rattle.scope.specs.Answers.{done}
 use Rattle.scope.specs.Pieces.{in_order, index_check}
 use Rattle.lists.proofs.Sums.{all_full, sum_one_more, sum_none}
 use Rattle.refusals.proofs.Rows.{index_below, index_room}
@@ -42,7 +42,7 @@ module _ (frame : List ℕ) (g : Geometry) where
       → named_before frame g p (suc s) ≤ slices_per_plane g
   most_here p s e h = rw e (omega (arith, named_here s))
 
-  module _ (m : ℕ) (all : Done ≡ in_order m (index_check frame g)) where
+  module _ (m : ℕ) (all : done ≡ in_order m (index_check frame g)) where
     named_most : (s : ℕ) → s ≤ m → (p : ℕ) → named_before frame g p s ≤ slices_per_plane g
     unfolding lay.named_before lay.place_in_plane
     named_most zero l p = omega arith
@@ -60,7 +60,7 @@ module _ (frame : List ℕ) (g : Geometry) where
         ∙ omega (arith, named_sum s (omega arith))
 
   -- each plane gets K slices
-  pub named_all : Done ≡ in_order (slice_count g) (index_check frame g) → (p : ℕ) → p < plane_count g → named_before frame g p (slice_count g) ≡ slices_per_plane g
+  pub named_all : done ≡ in_order (slice_count g) (index_check frame g) → (p : ℕ) → p < plane_count g → named_before frame g p (slice_count g) ≡ slices_per_plane g
   named_all all =
       all_full (λ p. named_before frame g p (slice_count g)) (slices_per_plane g) (plane_count g)
       (λ p l. named_most (slice_count g) all (slice_count g) (omega arith) p) (named_sum (slice_count g) all (slice_count g) (omega arith))

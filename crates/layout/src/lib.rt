@@ -5,9 +5,9 @@
 ghost use Rattle.std.specs.Prelude.{◌≡◌, ◌+◌, ◌*◌, ◌%◌, ◌<◌, ◌≤◌, ◌^◌, eqb, get_or};
 ghost use Rattle.scope.specs.Geometry.{slice_count};
 ghost use Rattle.scope.specs.Layout.{le32, preamble_end, count_byte, plane_index, slice_start, slice_end, slice_at};
-ghost use Rattle.geometry.specs.Sound.{Sound};
 ghost use Rattle.layout.specs.Placed.{Placed};
 
+use geometry::SoundGeometry;
 use scope::{Geometry, SliceAt};
 use sides::{place_rows, plane_slice_height, plane_width, slice_count};
 
@@ -17,23 +17,14 @@ use sides::{place_rows, plane_slice_height, plane_width, slice_count};
 fn byte_at(frame: &[u8], at: usize) -> u8
     ensures { result ≡ get_or frame.now at 0 }
 {
-    if at < frame.len() {
-        return frame[at];
-    }
-    0
-}
-
-fn wide(x: u8) -> usize
-    ensures { (result ≡ x) × (result < 256) }
-{
-    x as usize
+    frame.get(at).copied().unwrap_or(0)
 }
 
 // The same in 64 bits.
 fn number_at(frame: &[u8], at: usize) -> usize
     ensures { (result ≡ get_or frame.now at 0) × (result < 256) }
 {
-    wide(byte_at(frame, at))
+    usize::from(byte_at(frame, at))
 }
 
 // The little-endian 32-bit number at an offset, in 64 bits.
@@ -41,11 +32,13 @@ pub fn le32_at(frame: &[u8], at: usize) -> usize
     requires { at + 3 < 2 ^ 64 }
     ensures { (result ≡ le32 frame.now at) × (result < 4294967296) }
 {
-    let a = number_at(frame, at);
-    let b = number_at(frame, at + 1);
-    let c = number_at(frame, at + 2);
-    let d = number_at(frame, at + 3);
-    a + 256 * b + 65536 * c + 16777216 * d
+    let bytes = [
+        byte_at(frame, at),
+        byte_at(frame, at + 1),
+        byte_at(frame, at + 2),
+        byte_at(frame, at + 3),
+    ];
+    u32::from_le_bytes(bytes) as usize
 }
 
 // ---- the preamble
@@ -58,19 +51,17 @@ pub fn preamble_end(frame: &[u8]) -> usize
 }
 
 // Its first byte, the plane count.
-pub fn count_byte(frame: &[u8], g: Geometry) -> usize
-    requires { Sound g }
-    ensures { result ≡ count_byte frame.now g }
+pub fn count_byte(frame: &[u8], g: SoundGeometry) -> usize
+    ensures { result ≡ count_byte frame.now g.of }
 {
     let t = slice_count(g);
     number_at(frame, 32 + 4 * (t + 1))
 }
 
 // The plane that slice s names.
-pub fn plane_index(frame: &[u8], g: Geometry, s: usize) -> usize
-    requires sound { Sound g }
-    requires s_bound { s < slice_count g }
-    ensures { result ≡ plane_index frame.now g s }
+pub fn plane_index(frame: &[u8], g: SoundGeometry, s: usize) -> usize
+    requires { s < slice_count g.of }
+    ensures { result ≡ plane_index frame.now g.of s }
 {
     let t = slice_count(g);
     number_at(frame, 32 + 4 * (t + 1) + 1 + s)
@@ -87,14 +78,13 @@ fn slice_start(frame: &[u8], g: Geometry, s: usize) -> usize
 }
 
 // Where it ends: where the next starts, and the last where the frame ends.
-fn slice_end(frame: &[u8], g: Geometry, s: usize) -> usize
-    requires sound { Sound g }
-    requires s_bound { s < slice_count g }
-    ensures { result ≡ slice_end frame.now g s }
+fn slice_end(frame: &[u8], g: SoundGeometry, s: usize) -> usize
+    requires { s < slice_count g.of }
+    ensures { result ≡ slice_end frame.now g.of s }
 {
     let t = slice_count(g);
     if s + 1 < t {
-        return slice_start(frame, g, s + 1);
+        return slice_start(frame, g.of, s + 1);
     }
     frame.len()
 }
@@ -107,14 +97,13 @@ fn is_raw(flag: u8) -> bool
 }
 
 // All of it: slice s, which is place k of plane p.
-pub fn slice_at(frame: &[u8], g: Geometry, s: usize, p: usize, k: usize) -> SliceAt
-    requires sound { Sound g }
-    requires s_bound { s < slice_count g }
-    requires placed { Placed frame.now g s p k }
-    ensures slice { result ≡ slice_at frame.now g s }
+pub fn slice_at(frame: &[u8], g: SoundGeometry, s: usize, p: usize, k: usize) -> SliceAt
+    requires s_bound { s < slice_count g.of }
+    requires placed { Placed frame.now g.of s p k }
+    ensures slice { result ≡ slice_at frame.now g.of s }
     ensures bounds { (result.start < 4294967328) × (result.rows * result.width ≤ 268435456) }
 {
-    let start = slice_start(frame, g, s);
+    let start = slice_start(frame, g.of, s);
     let end = slice_end(frame, g, s);
     let height = plane_slice_height(g, p);
     let rows = place_rows(g, p, k);
@@ -126,11 +115,11 @@ pub fn slice_at(frame: &[u8], g: Geometry, s: usize, p: usize, k: usize) -> Slic
         plane: p,
         place: k,
         first: k * height,
-        rows: rows,
-        width: width,
-        start: start,
-        end: end,
-        raw: raw,
-        predictor: predictor,
+        rows,
+        width,
+        start,
+        end,
+        raw,
+        predictor,
     }
 }

@@ -11,10 +11,6 @@ use Rattle.scope.specs.Base.{over_up}
 pub product_most : (x y n m : ℕ) → x ≤ n → y ≤ m → x * y ≤ n * m
 product_most x y n m h k = mul-le-mul h k
 
--- equals multiplied are equal
-pub product_are : (x y a b : ℕ) → x ≡ a → y ≡ b → x * y ≡ a * b
-product_are x y a b e f = rw (e, f)
-
 -- ---- parts
 
 -- a part of a number that a factor divides is not nothing

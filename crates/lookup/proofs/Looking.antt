@@ -7,19 +7,19 @@ use borrow.Author.Rules.{rules}
 use borrow.Author.Tests.{lt-ltb, le-ltb, le-leb, lt-leb, eq-eqb, ne_eqb}
 use Rattle.scope.specs.Bits.{window}
 use Rattle.scope.specs.Lookup.{unpacked, lookup_in}
-use Rattle.scope.specs.declared.Found.{Found}
-use Rattle.scope.specs.declared.Found.TheVariants.{Word, NoWord}
+use Rattle.scope.specs.Found.{Found, some_word}
+use Rattle.std.specs.Prelude.{None}
 use Rattle.lists.proofs.Made.{past_end}
 
 -- ---- what a workspace word says
 
 -- an unfilled slot
-pub says_none : (e : ℕ) → e % 256 ≡ 0 → NoWord ≡ unpacked e
+pub says_none : (e : ℕ) → e % 256 ≡ 0 → None ≡ unpacked e
 unfolding unpacked
 says_none e h = sym (simp (eq-eqb _ _ h))
 
 -- a word's length and symbol
-pub says_word : (e : ℕ) → (e % 256 ≡ 0 → ⊥) → Word (e % 256) (e / 256) ≡ unpacked e
+pub says_word : (e : ℕ) → (e % 256 ≡ 0 → ⊥) → some_word (e % 256) (e / 256) ≡ unpacked e
 unfolding unpacked
 says_word e h = sym (simp (ne_eqb _ _ h))
 
@@ -27,12 +27,12 @@ says_word e h = sym (simp (ne_eqb _ _ h))
 
 module _ (words : List ℕ) (m : ℕ) (payload : List ℕ) (at : ℕ) where
   -- no table has so long words
-  pub looks_far : 18 < m → NoWord ≡ lookup_in words m payload at
+  pub looks_far : 18 < m → None ≡ lookup_in words m payload at
   unfolding lookup_in
   looks_far a = sym (simp (lt-ltb _ _ a))
 
   -- or none at all
-  pub looks_none : m ≤ 18 → m ≡ 0 → NoWord ≡ lookup_in words m payload at
+  pub looks_none : m ≤ 18 → m ≡ 0 → None ≡ lookup_in words m payload at
   unfolding lookup_in
   looks_none a b = sym (simp (le-ltb _ _ a, eq-eqb _ _ b))
 

@@ -5,7 +5,7 @@ ghost use Rattle.std.specs.Prelude.{◌≡◌, get_or};
 ghost use Rattle.scope.specs.Lookup.{unpacked, lookup_in};
 
 use bits::peek;
-use scope::Found;
+use scope::Word;
 
 // The word at i, and 0 past the end.
 pub fn word(words: &[u32], i: usize) -> u32
@@ -18,27 +18,27 @@ pub fn word(words: &[u32], i: usize) -> u32
 }
 
 // What a workspace word says.
-fn unpack(e: u32) -> Found
+fn unpack(e: u32) -> Option<Word>
     ensures { result ≡ unpacked e }
 {
     if e % 256 == 0 {
-        return Found::NoWord;
+        return None;
     }
-    Found::Word {
+    Some(Word {
         length: (e % 256) as usize,
         symbol: (e / 256) as usize,
-    }
+    })
 }
 
 // The word that the bits at a position begin with, by the table in `words` whose longest length is m.
-pub fn lookup(words: &[u32], m: usize, payload: &[u8], at: usize) -> Found
+pub fn lookup(words: &[u32], m: usize, payload: &[u8], at: usize) -> Option<Word>
     ensures { result ≡ lookup_in words.now m payload.now at }
 {
     if 18 < m {
-        return Found::NoWord;
+        return None;
     }
     if m == 0 {
-        return Found::NoWord;
+        return None;
     }
     if m <= 12 {
         return unpack(word(words, peek(payload, at, m) as usize));

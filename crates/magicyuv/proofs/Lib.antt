@@ -1,3 +1,3 @@
-pub mod Replies
+pub mod Said
 pub mod Hosting
 pub mod Once

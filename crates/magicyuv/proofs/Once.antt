@@ -5,7 +5,7 @@ use Prim.Native.Nat.{ℕ}
 use contract.Lifetimes.{Lfts}
 use borrow.Fn.World.{ArgsD, ResD}
 use denote.Triple.Clauses.{AtExit}
-use Rattle.scope.specs.declared.Answer.{Answer}
+use Rattle.scope.specs.Answers.{Answer}
 use Rattle.magicyuv.specs.Boundary.{Says}
 use Rattle.magicyuv.specs.declared.Reply.{Reply}
 use Rattle.magicyuv.specs.contracts.entry8.magicyuv_decode8 as decode8

@@ -1,6 +1,6 @@
 -- The host's boundary: numbers in for the geometry, and a reply of three numbers out for the answer. Document 01, "Port order
 -- and shapes to change": "Both entries are callable from our Rust host on numbers and slices." Assumes nothing.
-use Rattle.std.specs.Prelude.{◌≡◌, ℕ, zero, suc, Bool, not, ◌&&◌, length, eqb, leb}
+use Rattle.std.specs.Prelude.{◌≡◌, ℕ, zero, suc, Bool, cond, not, ◌&&◌, Result, Ok, Err, length, eqb, leb}
 use Rattle.scope.specs.Base.{Bytes, Lengths, Samples, Words, zeros}
 use Rattle.scope.specs.Refusals.{number_of, place_of, kind_number, place_number, refuse_if, ◌and_then◌, left_by_frame}
 use Rattle.scope.specs.Frame.{answer_of, picture_of}
@@ -10,20 +10,12 @@ use Rattle.scope.specs.declared.Family.{Family}
 use Rattle.scope.specs.declared.Family.TheVariants.{Gray, Rgb, Yuv, Rgba, Yuva}
 use Rattle.scope.specs.declared.Geometry.{Geometry}
 use Rattle.scope.specs.declared.Place.TheVariants.{Nothing}
-use Rattle.scope.specs.declared.Answer.{Answer}
+use Rattle.scope.specs.declared.Refusal.{Refusal}
+use Rattle.scope.specs.Answers.{Answer, refusal}
 use Rattle.magicyuv.specs.declared.Reply.{Reply}
+use Rattle.magicyuv.specs.declared.numbers.Numbers.{Numbers}
 
 -- the eight numbers of a geometry as the host lends them
-pub record Numbers : Type 0 where
-  pub width : ℕ
-  pub height : ℕ
-  pub slice_height : ℕ
-  pub family : ℕ
-  pub sx : ℕ
-  pub sy : ℕ
-  pub depth : ℕ
-  pub interlaced : ℕ
-
 abbrev pub numbers : (w h sh f sx sy d i : ℕ) → Numbers
 numbers w h sh f sx sy d i =
     record { width = w; height = h; slice_height = sh; family = f; sx = sx; sy = sy; depth = d; interlaced = i }
@@ -52,6 +44,16 @@ geometry_of n =
       depth = n.depth;
       interlaced = eqb n.interlaced 1;
     }
+
+-- what the numbers say one by one: any other for the family or for interlaced is refusal 1
+unfoldable pub family_named : (n : ℕ) → Result Family Refusal
+family_named n = cond (leb n 4) (Ok (family_of n)) (Err (refusal 1 Nothing))
+
+unfoldable pub interlaced_named : (n : ℕ) → Result Bool Refusal
+interlaced_named n = cond (leb n 1) (Ok (eqb n 1)) (Err (refusal 1 Nothing))
+
+unfoldable pub geometry_said : (n : Numbers) → Result Geometry Refusal
+geometry_said n = cond (numbers_fit n) (Ok (geometry_of n)) (Err (refusal 1 Nothing))
 
 -- any other number for the family or for interlaced is refusal 1; then the answer is the entry's
 unfoldable pub host_answer : (which : Entry) (frame : Bytes) (n : Numbers) (lengths : Lengths) (planes_len workspace_len : ℕ) → Answer

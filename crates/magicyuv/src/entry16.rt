@@ -4,9 +4,10 @@ ghost use Rattle.scope.specs.declared.Entry.TheVariants.{Deep};
 ghost use Rattle.magicyuv.specs.Boundary.{numbers, Hosted};
 
 use crate::Reply;
-use scope::{Answer, Geometry, Place};
+use crate::numbers::Numbers;
+use scope::Geometry;
 
-// Document 01's entry for depths 10, 12 and 14.
+// Document 01's entry for depths 10, 12 and 14. Its parameters are those of the exported function of its name, so the eight numbers come one by one.
 pub fn magicyuv_decode16(
     frame: &[u8],
     lengths: &[u8],
@@ -23,23 +24,20 @@ pub fn magicyuv_decode16(
 ) -> Reply
     ensures { Hosted Deep frame.now (numbers width height slice_height family sx sy depth interlaced) lengths.now planes.old workspace.old result planes.new workspace.new }
 {
-    if 4 < family {
-        return crate::reply_of(Answer::Refused(1, Place::Nothing)); // no such family
-    }
-    if 1 < interlaced {
-        return crate::reply_of(Answer::Refused(1, Place::Nothing)); // neither interlaced nor not
-    }
-    let named = crate::family(family);
-    let g = Geometry {
-        width: width as usize,
-        height: height as usize,
-        slice_height: slice_height as usize,
-        family: named,
-        sx: sx as usize,
-        sy: sy as usize,
-        depth: depth as usize,
-        interlaced: interlaced == 1,
+    let numbers = Numbers {
+        width,
+        height,
+        slice_height,
+        family,
+        sx,
+        sy,
+        depth,
+        interlaced,
     };
-    let decoded = decode16::decode16(frame, g, lengths, planes, workspace);
+    let g = match Geometry::try_from(numbers) {
+        Ok(g) => g,
+        Err(why) => return crate::reply_of(Err(why)), // they say no geometry
+    };
+    let decoded = decode::decode16(frame, g, lengths, planes, workspace);
     crate::reply_of(decoded)
 }

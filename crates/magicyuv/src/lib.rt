@@ -1,20 +1,21 @@
-// The host's boundary: the product's functions on numbers and slices. An enum cannot cross it, so a Reply of three numbers stands in for
+// The host's boundary: the product's functions on numbers and slices. A Result cannot cross it, so a Reply of three numbers stands in for
 // the answer; each function is proved to reply just the answer's number and place. Crate magicyuv_c exports them as extern "C".
-// entry8.rt has the frame entry for depth 8, entry16.rt the one for depths 10, 12 and 14.
+// numbers.rt has what the host lends for a geometry, entry8.rt the frame entry for depth 8, entry16.rt the one for depths 10, 12 and 14.
 #![tactic(auto)]
 
 mod entry16;
 mod entry8;
+mod numbers;
 
-ghost use Rattle.std.specs.Prelude.{◌≡◌, ◌<◌};
+ghost use Rattle.std.specs.Prelude.{◌<◌};
 ghost use Rattle.scope.specs.Refusals.{place_of, place_number};
-ghost use Rattle.magicyuv.specs.Boundary.{family_of, Says, BuiltFor, ReadFor};
+ghost use Rattle.magicyuv.specs.Boundary.{Says, BuiltFor, ReadFor};
 
 pub use entry8::magicyuv_decode8;
 pub use entry16::magicyuv_decode16;
-use scope::{Answer, Family, Place};
+use scope::{Answer, Place, Refusal};
 
-// 0 for planes, or the refusal's number; 0 nothing, 1 a slice, 2 a plane; and which one.
+// 0 for planes, or the refusal's number; 0 nothing, 1 a slice, 2 a plane; and which one. Numbers, since C takes no enum with a value.
 #[repr(C)]
 #[derive(Clone, Copy)]
 pub struct Reply {
@@ -23,53 +24,29 @@ pub struct Reply {
     pub place: u32,
 }
 
-// The reply that says an answer.
+// The reply that says an answer. No impl of From: its `from` may ask nothing of the answer, and a place fits 32 bits only since each
+// answer of the product has one below 65,536.
 fn reply_of(a: Answer) -> Reply
     requires { place_number (place_of a) < 65536 }
     ensures { Says a result }
 {
-    match a {
-        Answer::Done => Reply {
+    let Err(Refusal(number, at)) = a else {
+        return Reply {
             number: 0,
             kind: 0,
             place: 0,
-        },
-        Answer::Refused(number, place) => match place {
-            Place::Nothing => Reply {
-                number: number,
-                kind: 0,
-                place: 0,
-            },
-            Place::Slice(s) => Reply {
-                number: number,
-                kind: 1,
-                place: s as u32,
-            },
-            Place::Plane(p) => Reply {
-                number: number,
-                kind: 2,
-                place: p as u32,
-            },
-        },
+        };
+    };
+    let (kind, place) = match at {
+        Place::Nothing => (0, 0),
+        Place::Slice(s) => (1, s as u32),
+        Place::Plane(p) => (2, p as u32),
+    };
+    Reply {
+        number,
+        kind,
+        place,
     }
-}
-
-fn family(n: u32) -> Family
-    ensures { result ≡ family_of n }
-{
-    if n == 0 {
-        return Family::Gray;
-    }
-    if n == 1 {
-        return Family::Rgb;
-    }
-    if n == 2 {
-        return Family::Yuv;
-    }
-    if n == 3 {
-        return Family::Rgba;
-    }
-    Family::Yuva
 }
 
 // A table built by itself.

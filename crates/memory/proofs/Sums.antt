@@ -1,6 +1,6 @@
 -- The loop that adds one stretch of a buffer to a later one, at any depth: a turn, and that what it leaves is scope's `plus` in
 -- the place of the later stretch. Document 01, "B and R are B'+G and R'+G modulo 2^depth". Assumes nothing.
-use Rattle.std.proofs.Common.{◌≡◌, ℕ, zero, suc, ◌+◌, ◌-◌, ◌%◌, ◌^◌, ◌<◌, ◌≤◌, List, [], ◌∷◌, ◌++◌, length, get_or, take, drop, set, sym, refl, ap, ◌∙◌, append_assoc, append-nil, add-zero, add-suc, arith, get_or-take, drop-drop, rules, le-ltb, lt-ltb}
+use Rattle.std.proofs.Common.{◌≡◌, ℕ, zero, suc, ◌+◌, ◌-◌, ◌%◌, ◌^◌, ◌<◌, ◌≤◌, List, [], ◌∷◌, ◌++◌, length, get_or, take, drop, set, sym, refl, ap, ◌∙◌, append_assoc, append-nil, add-zero, add-suc, arith, get_or-take, drop-drop, le-ltb, lt-ltb}
 use native.Mathlib.Nat.{suc_inj}
 use Rattle.scope.specs.Base.{grown}
 use Rattle.scope.specs.Prediction.{plus}
@@ -97,6 +97,3 @@ add_end depth from to n xs s i a h k l m =
     a.holds
     ∙ rw (e, sums_grown depth from to xs n l o, drop-drop n to xs)
     (append_assoc (take to xs) (plus depth (part xs to n) (part xs from n)) (drop (to + n) xs))
-
--- what the answers of a loop that adds search with
-pub ruleset summing = (add_start, add_step, add_end, rules)

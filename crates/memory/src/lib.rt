@@ -1,20 +1,16 @@
 // Lent memory: a workspace set to zero, and the sum of two samples modulo 2^depth. Document 01, "Refusal numbers" ("leave both wholly
 // zero") and "All sums are modulo 2^depth". The law of a loop that rebuilds a list in place stands in proofs/InPlace.antt, once for
-// every element and every step; buffer8 and buffer16 have the loops over samples.
+// every element and every step; buffer has the loops over samples.
 #![tactic(auto)]
 
 ghost use Rattle.std.specs.Prelude.{◌≡◌, ◌+◌, ◌%◌, ◌^◌, ◌≤◌};
 ghost use Rattle.scope.specs.Base.{zeros};
 
-// Every word of a workspace becomes zero.
+// Every word of a workspace becomes zero. A function of its own for its promise, which refusals and successes are said to keep.
 pub fn clear_u32(words: &mut [u32])
     ensures { words.new ≡ zeros words.old }
 {
-    let mut w = 0;
-    while w < words.len() {
-        words[w] = 0;
-        w += 1;
-    }
+    words.fill(0);
 }
 
 // 2^depth, the modulus of every sum. It is a shift, so that a remainder by it is a mask once it is compiled.
@@ -30,7 +26,7 @@ pub fn sum_u8(a: u8, b: u8, depth: usize) -> u8
     requires { depth ≡ 8 }
     ensures { result ≡ (a + b) % 2 ^ depth }
 {
-    std::num::wrapping_add_u8(a, b)
+    a.wrapping_add(b)
 }
 
 // The sum of two samples of 16 bits, modulo 2^depth. The samples may be 2^depth or more. The sum wraps at 16 bits, so that all of it
@@ -39,6 +35,6 @@ pub fn sum_u16(a: u16, b: u16, depth: usize) -> u16
     requires { depth ≤ 16 }
     ensures { result ≡ (a + b) % 2 ^ depth }
 {
-    let sum = std::num::wrapping_add_u16(a, b);
+    let sum = a.wrapping_add(b);
     (sum as u32 % modulus(depth)) as u16
 }

@@ -1,16 +1,15 @@
 -- The parts of a decode's answer put together, over either entry. Only here, and once, is the lookup over the tables the word of the
 -- code lengths. Assumes nothing.
 use mathlib.Core.Path.{◌≡◌, refl, sym, ap, ◌∙◌}
-use mathlib.Core.Bool.{Bool}
+use mathlib.Core.Bool.{Bool, true}
 use mathlib.Core.List.{List}
 use Prim.Native.Nat.{ℕ, zero, suc, ◌-◌, ◌*◌, ◌^◌, ◌≤◌, ◌<◌}
 use native.Mathlib.Omega.{arith}
 use lib.Dec.{ltb}
 use lib.ListN.{length, get_or, drop, length-take}
-use lib.Pow.{pow_mono}
 use Rattle.scope.specs.Refusals.{refuse_if}
 use Rattle.scope.specs.Geometry as geo
-use Rattle.scope.specs.Geometry.{correlated, plane_count, slice_count, all_samples, lengths_of, swapped}
+use Rattle.scope.specs.Geometry.{correlated, plane_count, slice_count, lengths_of, swapped, depth_fits}
 use Rattle.scope.specs.Layout as lay
 use Rattle.scope.specs.Layout.{plane_index, place_in_plane, payload_of, samples_in}
 use Rattle.scope.specs.Words.{longest, word_at}
@@ -19,15 +18,14 @@ use Rattle.scope.specs.Frame as frm
 use Rattle.scope.specs.Pieces as pcs
 use Rattle.scope.specs.Frame.{need_of_all, slice_lengths, plane_up_to, wire_plane, buffer_plane, picture_of}
 use Rattle.scope.specs.declared.Geometry.{Geometry}
-use Rattle.scope.specs.declared.Place.{Place}
 use Rattle.scope.specs.declared.Place.TheVariants.{Nothing}
-use Rattle.scope.specs.declared.Answer.{Answer}
-use Rattle.scope.specs.declared.Answer.TheVariants.{Done, Refused}
+use Rattle.scope.specs.declared.Refusal.{Refusal}
+use Rattle.std.specs.Prelude.{Err}
+use Rattle.scope.specs.Answers.{Answer, done}
 use Rattle.geometry.specs.Sound.{Sound}
 use Rattle.refusals.proofs.InOrder.{each_passed, order_same}
 use Rattle.refusals.proofs.Rows.{index_below}
 use Rattle.incoming.proofs.Refused as lent
-use Rattle.incoming.proofs.Refused.{depth_shallow, depth_deep}
 use Rattle.codes.proofs.Lookup.{looks_table}
 use Rattle.geometry.proofs.Figures.{place_most}
 use Rattle.codes.specs.Reading.{Readable}
@@ -43,10 +41,9 @@ use Rattle.tables.specs.Tables.{plane_need, Tables}
 use Rattle.tables.proofs.Told.{answer_is, need_is, plane_short, plane_full, plane_passed, from_is, longest_is, shortest_is, shortest_byte, stretch_long, stretch_room}
 use Rattle.planes.specs.Standing.{Planes, coloured}
 use Rattle.planes.proofs.Colours.{planes_same, picture_is}
-use Rattle.scope.specs.declared.Found.{Found}
+use Rattle.scope.specs.Found.{Found}
 use Rattle.scope.specs.Pieces.{in_order, lent_checks, index_check, room_check, slice_check, frame_checks, read_checks, rest_of}
 use Rattle.scope.specs.declared.Entry.{Entry}
-use Rattle.scope.specs.declared.Entry.TheVariants.{Eight, Deep}
 use Rattle.stretches.specs.Stretch.{all_elements}
 use Rattle.lists.specs.Parts.{part}
 use Rattle.checks.proofs.Framed.{framed_is, frame_order, frame_lengths, frame_room, frame_slices, room_in}
@@ -55,8 +52,8 @@ use Rattle.picture.specs.Steps.{read_at, samples_for, gathered, plane_of, table_
 
 -- ---- what refusals 1 to 4 leave, as the run asks for it
 
-module _ (which : Entry) (g : Geometry) (l p : ℕ) (a : Answer) (ea : a ≡ lent_checks which g l p) (da : a ≡ Done) where
-  lent_passed : Done ≡ lent_checks which g l p
+module _ (which : Entry) (g : Geometry) (l p : ℕ) (a : Answer) (ea : a ≡ lent_checks which g l p) (da : a ≡ done) where
+  lent_passed : done ≡ lent_checks which g l p
   lent_passed = sym da ∙ ea
 
   pub lent_sound : Sound g
@@ -68,15 +65,13 @@ module _ (which : Entry) (g : Geometry) (l p : ℕ) (a : Answer) (ea : a ≡ len
   pub lent_planes : p ≡ all_elements g
   lent_planes = lent.lent_planes which g l p lent_passed
 
-pub lent_8 : (g : Geometry) (l p : ℕ) (a : Answer) → a ≡ lent_checks Eight g l p → a ≡ Done → g.depth ≡ 8
-lent_8 g l p a ea da = depth_shallow g.depth (lent.lent_depth Eight g l p (sym da ∙ ea))
-
-pub lent_deep : (g : Geometry) (l p : ℕ) (a : Answer) → a ≡ lent_checks Deep g l p → a ≡ Done → 8 < g.depth
-lent_deep g l p a ea da = omega (arith, (depth_deep g.depth (lent.lent_depth Deep g l p (sym da ∙ ea))).0)
+  -- the entry serves the depth
+  pub lent_served : depth_fits which g.depth ≡ true
+  lent_served = lent.lent_depth which g l p lent_passed
 
 -- ---- the tables' lookup is the word of the lengths
 
-module _ (g : Geometry) (lengths workspace : List ℕ) (c : Codes) (is : c ≡ codes_of g lengths) (ok : c.answer ≡ Done) (tb : Tables g lengths workspace) (p : ℕ) (l : p < plane_count g) where
+module _ (g : Geometry) (lengths workspace : List ℕ) (c : Codes) (is : c ≡ codes_of g lengths) (ok : c.answer ≡ done) (tb : Tables g lengths workspace) (p : ℕ) (l : p < plane_count g) where
   table_is : part workspace (get_or c.from p 0) (get_or c.to p 0 - get_or c.from p 0) ≡ table_of (lengths_of g lengths p)
   table_is =
       let n : get_or c.to p 0 - get_or c.from p 0 ≡ plane_need g lengths p = omega (arith, stretch_long g lengths c is ok p l) in
@@ -104,13 +99,6 @@ lengths_most : (g : Geometry) (lengths : List ℕ) (p : ℕ) → length (lengths
 unfolding geo.lengths_of
 lengths_most g lengths p = omega (arith, length-take (2 ^ g.depth) (drop (p * 2 ^ g.depth) lengths))
 
--- so bytes hold every symbol at depth 8, and 16 bits at any
-pub symbols_8 : (g : Geometry) → g.depth ≡ 8 → 2 ^ g.depth ≤ 2 ^ 8
-symbols_8 g d = pow_mono {j = 8} (omega (arith, d))
-
-pub symbols_16 : (g : Geometry) → Sound g → 2 ^ g.depth ≤ 2 ^ 16
-symbols_16 g ok = pow_mono {j = 16} (omega (arith, ok.deep.1))
-
 -- ---- the picture
 
 buffer_same : (t : Bool) (d : ℕ) (f h : ℕ → List ℕ) → ((p : ℕ) → f p ≡ h p) → (b : ℕ) → buffer_plane t d f b ≡ buffer_plane t d h b
@@ -118,20 +106,13 @@ unfolding frm.colour_plane
 buffer_same t d f h e b = rw (e (swapped t b), e 1)
 
 -- planes that stand in their stretches, coloured, are their picture
-pub read_picture : (g : Geometry) (wire : ℕ → List ℕ) (a : Answer) (buf buf' : List ℕ) → a ≡ Done → (a ≡ Done → Planes g wire buf) → buf' ≡ coloured g buf → buf' ≡ picture_by g wire
+pub read_picture : (g : Geometry) (wire : ℕ → List ℕ) (a : Answer) (buf buf' : List ℕ) → a ≡ done → (a ≡ done → Planes g wire buf) → buf' ≡ coloured g buf → buf' ≡ picture_by g wire
 unfolding stp.picture_by
 read_picture g wire a buf buf' d pl e = picture_is g wire buf buf' (pl d) e
 
--- the reading keeps the buffer's length
-pub read_long : (g : Geometry) (xs ys : List ℕ) → length ys ≡ length xs → length xs ≡ all_elements g → length ys ≡ all_samples g
-read_long g xs ys k e = k ∙ e
-
 -- a refusal is no success
-pub no_planes : (n : ℕ) (q : Place) (g : Geometry) (wire : ℕ → List ℕ) (buf : List ℕ) → Refused n q ≡ Done → Planes g wire buf
-no_planes n q g wire buf e = record { each = λ p l. cc; whole = cc }
-
-pub no_list : (n : ℕ) (q : Place) (xs ys : List ℕ) → Refused n q ≡ Done → xs ≡ ys
-no_list n q xs ys e = cc
+pub no_planes : (why : Refusal) (g : Geometry) (wire : ℕ → List ℕ) (buf : List ℕ) → Err why ≡ done → Planes g wire buf
+no_planes why g wire buf e = record { each = λ p l. cc; whole = cc }
 
 -- ---- what the checks leave
 
@@ -142,7 +123,7 @@ samples_most_in frame g s = place_most g (plane_index frame g s) (place_in_plane
 
 module _ (frame : List ℕ) (g : Geometry) (lengths : List ℕ) (c : Codes) (is : c ≡ codes_of g lengths) (w need : ℕ) (room : Answer) (en : need ≡ c.need) (er : room ≡ refuse_if (ltb w need) 11 Nothing)
     (a : Answer) (ea : a ≡ framed_by frame g c.answer room c.shortest) where
-  room_is : c.answer ≡ Done → room ≡ room_check g lengths w
+  room_is : c.answer ≡ done → room ≡ room_check g lengths w
   unfolding pcs.room_check
   room_is ok = er ∙ ap (λ (n : ℕ). refuse_if (ltb w n) 11 Nothing) (en ∙ need_is g lengths c is ok)
 
@@ -153,21 +134,21 @@ module _ (frame : List ℕ) (g : Geometry) (lengths : List ℕ) (c : Codes) (is 
       (λ ok p l. shortest_is g lengths c is ok p l)
 
   -- a refusal is the answer
-  pub run_refused : (n : ℕ) (p : Place) → a ≡ Refused n p → Refused n p ≡ rest_of frame g lengths (room_check g lengths w)
+  pub run_refused : (why : Refusal) → a ≡ Err why → Err why ≡ rest_of frame g lengths (room_check g lengths w)
   unfolding pcs.rest_of
-  run_refused n p h = rw (← checks_are, h)
+  run_refused why h = rw (← checks_are, h)
 
-  module _ (da : a ≡ Done) where
-    passed : Done ≡ frame_checks frame g lengths (room_check g lengths w)
+  module _ (da : a ≡ done) where
+    passed : done ≡ frame_checks frame g lengths (room_check g lengths w)
     passed = sym da ∙ checks_are
 
-    pub run_codes : c.answer ≡ Done
+    pub run_codes : c.answer ≡ done
     run_codes = answer_is g lengths c is ∙ sym (frame_lengths frame g lengths (room_check g lengths w) passed)
 
     pub run_room : need_of_all g lengths ≤ w
     run_room = room_in g lengths w (frame_room frame g lengths (room_check g lengths w) passed)
 
-    slice_passed : (s : ℕ) → s < slice_count g → Done ≡ slice_check frame g lengths s
+    slice_passed : (s : ℕ) → s < slice_count g → done ≡ slice_check frame g lengths s
     slice_passed s l = each_passed (slice_check frame g lengths) (slice_count g) s (frame_slices frame g lengths (room_check g lengths w) passed) l
 
     ready : (limit : ℕ) (workspace : List ℕ) → Sound g → 2 ^ g.depth ≤ limit → Tables g lengths workspace → Ready limit frame g workspace c
@@ -208,7 +189,7 @@ module _ (frame : List ℕ) (g : Geometry) (lengths : List ℕ) (c : Codes) (is 
         run_read = rw (← passed) (eb ∙ reads_are)
 
         -- and its planes, coloured, are the picture
-        pub run_picture : (buf : List ℕ) → b ≡ Done → (b ≡ Done → buf ≡ picture_by g (plane_of (samples_for (table_look workspace c) frame g) frame g)) → buf ≡ picture_of frame g lengths
+        pub run_picture : (buf : List ℕ) → b ≡ done → (b ≡ done → buf ≡ picture_by g (plane_of (samples_for (table_look workspace c) frame g) frame g)) → buf ≡ picture_of frame g lengths
         unfolding frm.picture_of stp.picture_by
         run_picture buf db pl = pl db ∙ planes_same _ _ (plane_count g) (λ q l. buffer_same (correlated g.family) g.depth _ _ planes_are q)
 
@@ -219,18 +200,14 @@ pub record Checked (frame : List ℕ) (g : Geometry) (lengths : List ℕ) (c : C
   pub codes_are : c ≡ codes_of g lengths
   pub room_says : room ≡ refuse_if (ltb w c.need) 11 Nothing
   pub checks_say : a ≡ framed_by frame g c.answer room c.shortest
-  pub done : a ≡ Done
+  pub passed : a ≡ done
 
 -- then all is as the reading asks, with the tables built
 pub run_ready : {frame : List ℕ} {g : Geometry} {lengths : List ℕ} {c : Codes} {w : ℕ} {room a : Answer} {limit : ℕ} {workspace : List ℕ}
     → Checked frame g lengths c w room a → Sound g → 2 ^ g.depth ≤ limit → Tables g lengths workspace → Ready limit frame g workspace c
 run_ready {frame} {g} {lengths} {c} {w} {room} {a} {limit} {workspace} d =
-    ready frame g lengths c d.codes_are w c.need room refl d.room_says a d.checks_say d.done limit workspace
-
--- an answer that is told
-pub told : (a b x : Answer) → a ≡ b → a ≡ x → x ≡ b
-told a b x e h = sym h ∙ e
+    ready frame g lengths c d.codes_are w c.need room refl d.room_says a d.checks_say d.passed limit workspace
 
 -- the shortest words that the codes have
-pub run_shorts : (g : Geometry) (lengths : List ℕ) (c : Codes) → c ≡ codes_of g lengths → c.answer ≡ Done → Shortests g c.shortest
+pub run_shorts : (g : Geometry) (lengths : List ℕ) (c : Codes) → c ≡ codes_of g lengths → c.answer ≡ done → Shortests g c.shortest
 run_shorts g lengths c is ok = record { small = λ p l. shortest_byte g lengths c is ok p l }

@@ -13,9 +13,9 @@ use Rattle.scope.specs.Layout as lay
 use Rattle.scope.specs.Layout.{plane_index, named_before, place_in_plane, slice_at}
 use Rattle.scope.specs.declared.Geometry.{Geometry}
 use Rattle.scope.specs.declared.SliceAt.{SliceAt}
-use Rattle.scope.specs.declared.Place.{Place}
-use Rattle.scope.specs.declared.Answer.{Answer}
-use Rattle.scope.specs.declared.Answer.TheVariants.{Done, Refused}
+use Rattle.scope.specs.declared.Refusal.{Refusal}
+use Rattle.std.specs.Prelude.{Err}
+use Rattle.scope.specs.Answers.{Answer, done}
 use Rattle.scope.specs.Pieces.{in_order, index_check}
 use Rattle.lists.specs.Parts.{replaced}
 use Rattle.geometry.specs.Sound.{Sound}
@@ -99,12 +99,12 @@ pub record Reading (look : Look) (frame : List ℕ) (g : Geometry) (t : ℕ) (se
   pub filled : Filled (samples_for look frame g) frame g s buf
 
 module _ (look : Look) (frame : List ℕ) (g : Geometry) (t : ℕ) where
-  pub reading_start : (buf : List ℕ) → t ≡ slice_count g → Done ≡ in_order (slice_count g) (index_check frame g) → length buf ≡ all_samples g → Reading look frame g t (0 ∷ 0 ∷ 0 ∷ 0 ∷ []) 0 buf
+  pub reading_start : (buf : List ℕ) → t ≡ slice_count g → done ≡ in_order (slice_count g) (index_check frame g) → length buf ≡ all_samples g → Reading look frame g t (0 ∷ 0 ∷ 0 ∷ 0 ∷ []) 0 buf
   reading_start buf et ck el = record { going = going_start (read_at look frame g) frame g t et ck; filled = filled_start (samples_for look frame g) frame g buf el }
 
   module _ (seen : List ℕ) (s : ℕ) (buf : List ℕ) (w : Reading look frame g t seen s buf) where
     -- all slices are read
-    pub reading_done : t ≤ s → Done ≡ in_order (slice_count g) (read_at look frame g)
+    pub reading_done : t ≤ s → done ≡ in_order (slice_count g) (read_at look frame g)
     reading_done h = going_done (read_at look frame g) frame g t seen s w.going h
 
     pub reading_planes : Sound g → t ≤ s → Planes g (plane_of (samples_for look frame g) frame g) buf
@@ -143,10 +143,10 @@ module _ (look : Look) (frame : List ℕ) (g : Geometry) (t : ℕ) where
       own = er ∙ ap (read_at look frame g) (at_number frame g s a is)
 
       -- it is refused
-      pub reading_refused : (n : ℕ) (pl : Place) → r ≡ Refused n pl → Refused n pl ≡ in_order (slice_count g) (read_at look frame g)
+      pub reading_refused : (why : Refusal) → r ≡ Err why → Err why ≡ in_order (slice_count g) (read_at look frame g)
       reading_refused = going_refused (read_at look frame g) frame g t seen s w.going p ls ei r own
 
-      goes_on : Sound g → (buf' : List ℕ) → r ≡ Done → (r ≡ Done → buf' ≡ with_rows g a (samples_for look frame g a.number) buf) → length buf' ≡ length buf
+      goes_on : Sound g → (buf' : List ℕ) → r ≡ done → (r ≡ done → buf' ≡ with_rows g a (samples_for look frame g a.number) buf) → length buf' ≡ length buf
           → Reading look frame g t (set seen p (get_or seen p 0 + 1)) (s + 1) buf'
       unfolding lay.place_in_plane
       goes_on ok buf' ed eb el =
@@ -177,14 +177,14 @@ pub record SliceDone (look : Look) (frame : List ℕ) (g : Geometry) (t : ℕ) (
   pub plane_is : p ≡ plane_index frame g s
   pub record_is : a ≡ slice_at frame g s
   pub answer_is : r ≡ read_at look frame g a.number
-  pub done : r ≡ Done
-  pub rows_are : r ≡ Done → buf' ≡ with_rows g a (samples_for look frame g a.number) buf
+  pub passed : r ≡ done
+  pub rows_are : r ≡ done → buf' ≡ with_rows g a (samples_for look frame g a.number) buf
   pub kept : length buf' ≡ length buf
 
 -- so the loop knows the same of one slice more
 pub reading_step : {look : Look} {frame : List ℕ} {g : Geometry} {t : ℕ} {seen : List ℕ} {s : ℕ} {buf : List ℕ} {p : ℕ} {a : SliceAt} {r : Answer} {buf' : List ℕ}
     → SliceDone look frame g t seen s buf p a r buf' → Reading look frame g t (set seen p (get_or seen p 0 + 1)) (s + 1) buf'
 reading_step {look} {frame} {g} {t} {seen} {s} {buf} {p} {a} {r} {buf'} d =
-    goes_on look frame g t seen s buf d.known p d.within d.plane_is a d.record_is r d.answer_is d.sound buf' d.done d.rows_are d.kept
+    goes_on look frame g t seen s buf d.known p d.within d.plane_is a d.record_is r d.answer_is d.sound buf' d.passed d.rows_are d.kept
 
 pub ruleset readings = (reading_start, reading_four, reading_scaled, reading_fits, rules)

@@ -2,7 +2,7 @@
 -- nothing.
 use mathlib.Core.Path.{◌≡◌, refl, sym, ap, ◌∙◌}
 use mathlib.Core.List.{List}
-use Prim.Native.Nat.{ℕ, ◌+◌, ◌-◌, ◌*◌, ◌^◌, ◌≤◌, ◌<◌}
+use Prim.Native.Nat.{ℕ, ◌+◌, ◌-◌, ◌*◌, ◌≤◌, ◌<◌}
 use native.Mathlib.Omega.{arith}
 use mir.Syntax.{w64}
 use mir.Val.{Fits}
@@ -14,10 +14,9 @@ use Rattle.scope.specs.Layout.{plane_index, place_in_plane, payload_of, slice_at
 use Rattle.scope.specs.Lookup.{lookup_in}
 use Rattle.scope.specs.declared.Geometry.{Geometry}
 use Rattle.scope.specs.declared.SliceAt.{SliceAt}
-use Rattle.scope.specs.declared.Answer.{Answer}
-use Rattle.scope.specs.declared.Answer.TheVariants.{Done}
+use Rattle.scope.specs.Answers.{Answer, done}
 use Rattle.geometry.specs.Sound.{Sound}
-use Rattle.geometry.proofs.Places.{planes_most, place_room, width_fits, height_fits}
+use Rattle.geometry.proofs.Places.{place_room, width_fits, height_fits}
 use Rattle.layout.specs.Placed.{Placed}
 use Rattle.layout.proofs.Readers.{record_in_plane}
 use Rattle.codes.specs.Reading.{Readable}
@@ -68,13 +67,6 @@ module _ (frame : List ℕ) (g : Geometry) (s : ℕ) (a : SliceAt) (is : a ≡ s
   place_below : place_in_plane frame g s < slices_per_plane g
   place_below = rw (at_place frame g s a is) at pl.place_below
 
-  pub plane_four : a.plane < 4
-  plane_four = omega (arith, pl.plane_below, planes_most g.family)
-
-  -- a plane's number in an array of 64-bit numbers
-  pub plane_scaled : Fits w64 (a.plane * 8)
-  plane_scaled = record { fits = omega (arith, plane_four) }
-
   pub rows_in : Sound g → a.first + a.rows ≤ plane_height g a.plane
   rows_in ok = (record_in_plane frame g s a.plane a.place pl ok a is).ends
 
@@ -109,7 +101,7 @@ module _ (frame : List ℕ) (g : Geometry) (s : ℕ) (a : SliceAt) (is : a ≡ s
     pub stretch_in : (len : ℕ) → len ≡ all_elements g → r.at + r.rows * r.pitch ≤ len
     stretch_in len el = omega (arith, within, el)
 
-    module _ (planes : List ℕ) (el : length planes ≡ all_elements g) where
+    module _ {S : Type 0} (planes : List S) (el : length planes ≡ all_elements g) where
       long : length (take (r.at + r.rows * r.pitch - r.at) (drop r.at planes)) ≡ r.rows * r.pitch
       long =
           let q : r.at + r.rows * r.pitch - r.at ≡ r.rows * r.pitch = omega arith in
@@ -145,13 +137,6 @@ module _ (frame : List ℕ) (g : Geometry) (s : ℕ) (a : SliceAt) (is : a ≡ s
 
 module _ (limit : ℕ) (frame : List ℕ) (g : Geometry) (workspace : List ℕ) (c : Codes) (rd : Ready limit frame g workspace c)
     (s : ℕ) (a : SliceAt) (is : a ≡ slice_at frame g s) (pl : Placed frame g s a.plane a.place) where
-  -- its table lies within the workspace
-  pub table_starts : (x y : ℕ) → x ≡ get_or c.from a.plane 0 → y ≡ get_or c.to a.plane 0 → x ≤ y
-  table_starts x y ex ey = omega (arith, ex, ey, rd.starts a.plane pl.plane_below)
-
-  pub table_ends : (y : ℕ) → y ≡ get_or c.to a.plane 0 → y ≤ length workspace
-  table_ends y ey = omega (arith, ey, rd.ends a.plane pl.plane_below)
-
   -- the slice passed its checks
   pub slice_ready : s < slice_count g → SliceIn g.depth frame a
   slice_ready l = rw is (rd.slices s l)
@@ -182,10 +167,6 @@ module _ (limit : ℕ) (frame : List ℕ) (g : Geometry) (workspace : List ℕ) 
     unfolding stp.samples_for
     samples_at_lem = ap (λ (k : ℕ → _). samples_by k g.depth (fields g) frame a) own_look ∙ ap (samples_by (table_look workspace c (plane_index frame g s) (payload_of frame g s)) g.depth (fields g) frame) is
 
-  -- where it starts, in bytes, fits 64 bits
-  pub table_scaled : (x : ℕ) → x ≡ get_or c.from a.plane 0 → length workspace * 4 < 2 ^ 63 → Fits w64 (x * 4)
-  table_scaled x ex h = record { fits = omega (arith, ex, rd.starts a.plane pl.plane_below, rd.ends a.plane pl.plane_below, h) }
-
   -- the rows' elements are numbers of 64 bits
   module _ (r : Stretch) (er : r ≡ stretch_of g a.plane a.first a.rows) (l : s < slice_count g) where
     elements_most : r.rows * r.pitch ≤ 268435456
@@ -201,16 +182,16 @@ module _ (limit : ℕ) (frame : List ℕ) (g : Geometry) (workspace : List ℕ) 
     few_rows = omega (arith, count_is frame g s a is pl rd.sound r er, rows_in frame g s a is pl rd.sound, (height_fits g rd.sound a.plane).1)
 
     -- the part that is lent
-    pub part_in : (planes : List ℕ) → length planes ≡ all_elements g → r.at + r.rows * r.pitch ≤ length planes
+    pub part_in : {S : Type 0} (planes : List S) → length planes ≡ all_elements g → r.at + r.rows * r.pitch ≤ length planes
     part_in planes el = stretch_in frame g s a is pl rd.sound r er (length planes) el
 
-    pub part_rowed : (planes : List ℕ) → length planes ≡ all_elements g → Rowed (length (take (r.at + r.rows * r.pitch - r.at) (drop r.at planes))) a.width r.pitch a.rows
+    pub part_rowed : {S : Type 0} (planes : List S) → length planes ≡ all_elements g → Rowed (length (take (r.at + r.rows * r.pitch - r.at) (drop r.at planes))) a.width r.pitch a.rows
     part_rowed planes el = stretch_rowed frame g s a is pl rd.sound r er planes el few_rows
 
     given_back : (x y m : ℕ) → x ≡ get_or c.from a.plane 0 → y ≡ get_or c.to a.plane 0 → m ≡ get_or c.longest a.plane 0
         → (o : Answer) (xs ys : List ℕ) → length xs ≡ all_elements g → length ys ≡ length (take (r.at + r.rows * r.pitch - r.at) (drop r.at xs))
-        → (o ≡ Done → samples_at (rows_places a.width r.pitch a.rows) ys ≡ samples_by (lookup_in (take (y - x) (drop x workspace)) m (payload_in frame a)) g.depth (fields g) frame a)
-        → o ≡ Done → put_mid r.at (r.at + r.rows * r.pitch - r.at) xs ys ≡ with_rows g a (samples_for (table_look workspace c) frame g s) xs
+        → (o ≡ done → samples_at (rows_places a.width r.pitch a.rows) ys ≡ samples_by (lookup_in (take (y - x) (drop x workspace)) m (payload_in frame a)) g.depth (fields g) frame a)
+        → o ≡ done → put_mid r.at (r.at + r.rows * r.pitch - r.at) xs ys ≡ with_rows g a (samples_for (table_look workspace c) frame g s) xs
     given_back x y m ex ey em o xs ys el ly e d =
         stretch_put frame g s a is pl rd.sound r er xs ys (samples_for (table_look workspace c) frame g s) ly el (e d ∙ samples_at_lem x y m ex ey em)
 
@@ -223,8 +204,8 @@ pub record StretchRead (limit : ℕ) (frame : List ℕ) (g : Geometry) (workspac
   pub stretch_is : r ≡ stretch_of g a.plane a.first a.rows
   pub long : length xs ≡ all_elements g
   pub kept : length ys ≡ length (take (r.at + r.rows * r.pitch - r.at) (drop r.at xs))
-  pub samples_are : o ≡ Done → samples_at (rows_places a.width r.pitch a.rows) ys ≡ samples_by (lookup_in (take (get_or c.to a.plane 0 - get_or c.from a.plane 0) (drop (get_or c.from a.plane 0) workspace)) (get_or c.longest a.plane 0) (payload_in frame a)) g.depth (fields g) frame a
-  pub done : o ≡ Done
+  pub samples_are : o ≡ done → samples_at (rows_places a.width r.pitch a.rows) ys ≡ samples_by (lookup_in (take (get_or c.to a.plane 0 - get_or c.from a.plane 0) (drop (get_or c.from a.plane 0) workspace)) (get_or c.longest a.plane 0) (payload_in frame a)) g.depth (fields g) frame a
+  pub passed : o ≡ done
 
 -- what the stretch is given back as
 pub part_put : {limit : ℕ} {frame : List ℕ} {g : Geometry} {workspace : List ℕ} {c : Codes} {a : SliceAt} {r : Stretch} {o : Answer} {xs ys : List ℕ}
@@ -232,8 +213,4 @@ pub part_put : {limit : ℕ} {frame : List ℕ} {g : Geometry} {workspace : List
     → put_mid r.at (r.at + r.rows * r.pitch - r.at) xs ys ≡ with_rows g a (samples_for (table_look workspace c) frame g a.number) xs
 part_put {limit} {frame} {g} {workspace} {c} {a} {r} {o} {xs} {ys} d =
     given_back limit frame g workspace c d.ready a.number a d.record_is d.placed r d.stretch_is d.below (get_or c.from a.plane 0)
-    (get_or c.to a.plane 0) (get_or c.longest a.plane 0) refl refl refl o xs ys d.long d.kept d.samples_are d.done
-
--- no depth is above 16
-pub deep_most : (limit : ℕ) (frame : List ℕ) (g : Geometry) (workspace : List ℕ) (c : Codes) → Ready limit frame g workspace c → g.depth ≤ 16
-deep_most limit frame g workspace c rd = omega (arith, rd.sound.deep.1)
+    (get_or c.to a.plane 0) (get_or c.longest a.plane 0) refl refl refl o xs ys d.long d.kept d.samples_are d.passed

@@ -6,9 +6,8 @@ use Rattle.scope.specs.Lookup.{lookup_in}
 use Rattle.scope.specs.Frame.{buffer_plane, planes_up_to}
 use Rattle.scope.specs.declared.Geometry.{Geometry}
 use Rattle.scope.specs.declared.SliceAt.{SliceAt}
-use Rattle.scope.specs.declared.Found.{Found}
-use Rattle.scope.specs.declared.Answer.{Answer}
-use Rattle.scope.specs.declared.Answer.TheVariants.{Done}
+use Rattle.scope.specs.Found.{Found}
+use Rattle.scope.specs.Answers.{Answer, done}
 use Rattle.scope.specs.Pieces.{in_order, index_check}
 use Rattle.lists.specs.Parts.{part, replaced}
 use Rattle.geometry.specs.Sound.{Sound}
@@ -55,7 +54,7 @@ module _ (samples : ℕ → List ℕ) (frame : List ℕ) (g : Geometry) where
 
 pub record Ready (limit : ℕ) (frame : List ℕ) (g : Geometry) (workspace : List ℕ) (c : Codes) : Type 0 where
   pub sound : Sound g
-  pub indices : Done ≡ in_order (slice_count g) (index_check frame g)
+  pub indices : done ≡ in_order (slice_count g) (index_check frame g)
   pub slices : (s : ℕ) → s < slice_count g → SliceIn g.depth frame (slice_at frame g s)
   pub starts : (p : ℕ) → p < plane_count g → get_or c.from p 0 ≤ get_or c.to p 0
   pub ends : (p : ℕ) → p < plane_count g → get_or c.to p 0 ≤ length workspace

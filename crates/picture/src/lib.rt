@@ -1,3 +1,3 @@
 // What the two entries share: definitions in specs/ and laws in proofs/, no function. Once the checks have passed, every slice goes into
-// its rows of the planes, the planes are filled, and the answer follows. Crates decode8 and decode16 have the functions.
+// its rows of the planes, the planes are filled, and the answer follows. Crate decode has the functions.
 #![tactic(auto)]

@@ -18,7 +18,7 @@ use Rattle.scope.specs.Pieces.{in_order, lent_checks, index_check, room_check, r
 use Rattle.scope.specs.declared.Entry.{Entry}
 use Rattle.scope.specs.declared.Geometry.{Geometry}
 use Rattle.scope.specs.declared.Place.TheVariants.{Slice, Plane}
-use Rattle.scope.specs.declared.Answer.TheVariants.{Done}
+use Rattle.scope.specs.Answers.{done}
 use Rattle.scope.proofs.Table.{planes_when, in_pieces}
 use Rattle.refusals.proofs.None.{none_append}
 use Rattle.refusals.proofs.InOrder.{first_passed, then_passed, both_passed, each_passed}
@@ -31,35 +31,35 @@ use Rattle.within.proofs.Within.{table_begins, every_slice_begins_in_its_plane, 
 -- what is known once no row applies
 pub record Passed (frame : Bytes) (g : Geometry) (lengths : Lengths) : Type 0 where
   pub sound : Sound g
-  pub indices : Done ≡ in_order (slice_count g) (index_check frame g)
+  pub indices : done ≡ in_order (slice_count g) (index_check frame g)
   pub in_plane : (s : ℕ) → s < slice_count g
       → InPlane (plane_height g (plane_index frame g s)) (first_row g (plane_index frame g s) (place_in_plane frame g s)) (rows_at g (plane_index frame g s) (place_in_plane frame g s))
   pub whole : (s : ℕ) → s < slice_count g → is_raw frame g s ≡ true → AllBytes g.depth (samples_in frame g s) (payload_of frame g s)
   pub read : (s : ℕ) → s < slice_count g → is_stuck (residues_of frame g lengths s) ≡ false
 
 -- a slice that passed 15 and 14 as it was read has its residues
-unstuck : (frame : Bytes) (g : Geometry) (lengths : Lengths) (s : ℕ) → Done ≡ read_check frame g lengths s → is_stuck (residues_of frame g lengths s) ≡ false
+unstuck : (frame : Bytes) (g : Geometry) (lengths : Lengths) (s : ℕ) → done ≡ read_check frame g lengths s → is_stuck (residues_of frame g lengths s) ≡ false
 unfolding pcs.read_check
 unstuck frame g lengths s e =
     (both_passed (not (leb 1 (predictor_of frame g s) && leb (predictor_of frame g s) 3)) (is_stuck (residues_of frame g lengths s)) 15 14 (Slice s) (Plane (plane_index frame g s)) e).1
 
 module _ (which : Entry) (frame : Bytes) (g : Geometry) (lengths : Lengths) (planes_len workspace_len : ℕ)
-    (done : answer_of which frame g lengths planes_len workspace_len ≡ Done) where
-  lent : Done ≡ lent_checks which g (length lengths) planes_len
+    (well : answer_of which frame g lengths planes_len workspace_len ≡ done) where
+  lent : done ≡ lent_checks which g (length lengths) planes_len
   lent =
       first_passed (lent_checks which g (length lengths) planes_len) (rest_of frame g lengths (room_check g lengths workspace_len))
-      (sym done ∙ in_pieces which frame g lengths planes_len workspace_len)
+      (sym well ∙ in_pieces which frame g lengths planes_len workspace_len)
 
-  rest : Done ≡ rest_of frame g lengths (room_check g lengths workspace_len)
+  rest : done ≡ rest_of frame g lengths (room_check g lengths workspace_len)
   rest =
       then_passed (lent_checks which g (length lengths) planes_len) (rest_of frame g lengths (room_check g lengths workspace_len))
-      (sym done ∙ in_pieces which frame g lengths planes_len workspace_len)
+      (sym well ∙ in_pieces which frame g lengths planes_len workspace_len)
 
-  framed : Done ≡ frame_checks frame g lengths (room_check g lengths workspace_len)
+  framed : done ≡ frame_checks frame g lengths (room_check g lengths workspace_len)
   unfolding pcs.rest_of
   framed = first_passed (frame_checks frame g lengths (room_check g lengths workspace_len)) (read_checks frame g lengths) rest
 
-  reading : Done ≡ in_order (slice_count g) (read_check frame g lengths)
+  reading : done ≡ in_order (slice_count g) (read_check frame g lengths)
   unfolding pcs.rest_of pcs.read_checks
   reading = then_passed (frame_checks frame g lengths (room_check g lengths workspace_len)) (read_checks frame g lengths) rest
 
@@ -69,7 +69,7 @@ module _ (which : Entry) (frame : Bytes) (g : Geometry) (lengths : Lengths) (pla
   unfolding frm.answer_of
   none =
       none_append (rows_to8 which frame g lengths planes_len) _
-      (rw (table_begins which frame g lengths planes_len workspace_len) at ((planes_when (table which frame g lengths planes_len workspace_len)).0 done))
+      (rw (table_begins which frame g lengths planes_len workspace_len) at ((planes_when (table which frame g lengths planes_len workspace_len)).0 well))
 
   slices : NoneApplies (rows_of_each (slice_count g) (slice_rows frame g lengths))
   slices = (none_append _ _ (none_append (room_rows g lengths workspace_len) _ (none_append (rows_of_each (plane_count g) (length_rows g lengths)) _ none.1).1).1).0

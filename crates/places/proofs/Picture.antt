@@ -6,7 +6,7 @@ use Rattle.scope.specs.Base.{Bytes, Lengths}
 use Rattle.scope.specs.Frame.{answer_of, picture_of}
 use Rattle.scope.specs.declared.Entry.{Entry}
 use Rattle.scope.specs.declared.Geometry.{Geometry}
-use Rattle.scope.specs.declared.Answer.TheVariants.{Done}
+use Rattle.scope.specs.Answers.{done}
 use Rattle.places.specs.Picture.{Pictured}
 use Rattle.places.proofs.Passed.{Passed, passed}
 use Rattle.places.proofs.Covering.{row_covered, row_once}
@@ -14,9 +14,9 @@ use Rattle.places.proofs.Rows.{picture_below, picture_size, picture_rows}
 use Rattle.places.proofs.Only.{same_buffer}
 
 pub pictured : (which : Entry) (frame : Bytes) (g : Geometry) (lengths : Lengths) (planes_len workspace_len : ℕ)
-    → answer_of which frame g lengths planes_len workspace_len ≡ Done → Pictured frame g lengths
-pictured which frame g lengths planes_len workspace_len done =
-    let ok : Passed frame g lengths = passed which frame g lengths planes_len workspace_len done in
+    → answer_of which frame g lengths planes_len workspace_len ≡ done → Pictured frame g lengths
+pictured which frame g lengths planes_len workspace_len well =
+    let ok : Passed frame g lengths = passed which frame g lengths planes_len workspace_len well in
     record {
       size = picture_size frame g lengths ok;
       below = λ i l. picture_below frame g lengths i (omega (arith, l, picture_size frame g lengths ok));

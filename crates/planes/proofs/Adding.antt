@@ -3,13 +3,10 @@
 use mathlib.Core.Path.{◌≡◌, refl, sym, ap, ◌∙◌}
 use mathlib.Core.Bool.{Bool, true}
 use mathlib.Core.List.{List}
-use Prim.Native.Nat.{ℕ, zero, suc, ◌+◌, ◌*◌, ◌^◌, ◌≤◌, ◌<◌}
+use Prim.Native.Nat.{ℕ, zero, suc, ◌+◌, ◌*◌, ◌≤◌, ◌<◌}
 use native.Mathlib.Nat.{suc-mul, zero-mul, mul-le-mul_right}
 use native.Mathlib.Numerals.{add-one}
 use native.Mathlib.Omega.{arith}
-use borrow.Author.Rules.{rules}
-use mir.Syntax.{w64}
-use mir.Val.{Fits}
 use lib.ListN.{length, replicate, length-replicate, take-append-drop}
 use Rattle.scope.specs.Prediction as pred
 use Rattle.scope.specs.Prediction.{plus}
@@ -139,28 +136,6 @@ adds_start d from to s₀ ok = record { so = refl; same = refl; within = omega a
 
 module _ (d : ℕ) (from to : Stretch) (s₀ s : List ℕ) (r : ℕ) (a : AddsTo d from to s₀ s r) where
   module _ (k : r < to.rows) where
-    -- a row ends before the one that it is added to begins
-    pub adds_apart : from.at + r * from.pitch + to.width ≤ to.at + r * to.pitch
-    adds_apart = omega (arith, a.apart.before, a.apart.wide, suc-mul r from.pitch, mul-le-mul_right from.pitch k)
-
-    -- and that lies in the buffer
-    pub adds_in : to.at + r * to.pitch + to.width ≤ length s
-    adds_in = omega (arith, a.same, a.apart.inside, a.apart.wide_to, suc-mul r to.pitch, mul-le-mul_right to.pitch k)
-
-    -- so where they begin is a number of 64 bits
-    module _ (near : length s₀ < 2 ^ 64) where
-      pub adds_from : Fits w64 (r * from.pitch)
-      adds_from = record { fits = omega (arith, adds_apart, adds_in, a.same, near) }
-
-      pub adds_to : Fits w64 (r * to.pitch)
-      adds_to = record { fits = omega (arith, adds_in, a.same, near) }
-
-      pub adds_from_start : Fits w64 (from.at + r * from.pitch)
-      adds_from_start = record { fits = omega (arith, adds_apart, adds_in, a.same, near) }
-
-      pub adds_to_start : Fits w64 (to.at + r * to.pitch)
-      adds_to_start = record { fits = omega (arith, adds_in, a.same, near) }
-
     -- a row
     pub adds_step : (ys : List ℕ)
         → ys ≡ replaced s (to.at + r * to.pitch) to.width (plus d (part s (to.at + r * to.pitch) to.width) (part s (from.at + r * from.pitch) to.width))
@@ -168,15 +143,8 @@ module _ (d : ℕ) (from to : Stretch) (s₀ s : List ℕ) (r : ℕ) (a : AddsTo
     unfolding added_rows
     adds_step ys e l = record { so = rw (add-one r, ← a.so) e; same = l ∙ a.same; within = omega arith; apart = a.apart }
 
-  -- the length stays
-  pub adds_length : length s ≡ length s₀
-  adds_length = a.same
-
   -- after the last row
   pub adds_end : to.rows ≤ r → s ≡ added_rows d from.at from.pitch to.at to.pitch to.width to.rows s₀
   adds_end k =
       let e : r ≡ to.rows = omega (arith, a.within) in
       a.so ∙ ap (λ (n : ℕ). added_rows d from.at from.pitch to.at to.pitch to.width n s₀) e
-
--- what the answers of the loop over the rows search with
-pub ruleset adds = (adds_start, adds_apart, adds_in, adds_step, adds_length, adds_end, adds_from, adds_to, adds_from_start, adds_to_start, rules)

@@ -4,12 +4,10 @@ use mathlib.Core.Path.{◌≡◌, refl, sym, ap, ◌∙◌}
 use mathlib.Core.Bool.{Bool, true, false, cond}
 use mathlib.Core.List.{List}
 use Prim.Native.Nat.{ℕ, zero, suc, ◌+◌, ◌-◌, ◌*◌, ◌≤◌, ◌<◌}
-use native.Mathlib.Nat.{mul_comm, mul-le-mul}
+use native.Mathlib.Nat.{mul_comm}
 use native.Mathlib.Omega.{arith}
 use borrow.Author.Tests.{ne_eqb}
 use lib.Dec.{eqb}
-use mir.Syntax.{w64}
-use mir.Val.{Fits}
 use lib.ListN.{length, length-take, length-drop}
 use Rattle.scope.specs.Base as base
 use Rattle.scope.specs.Base.{sum_below}
@@ -20,7 +18,6 @@ use Rattle.scope.specs.Frame as frm
 use Rattle.scope.specs.Frame.{buffer_plane, planes_up_to}
 use Rattle.scope.specs.declared.Geometry.{Geometry}
 use Rattle.lists.specs.Parts.{part}
-use Rattle.geometry.specs.Sound.{Sound}
 use Rattle.geometry.proofs.Order.{Order, stretch_in}
 use Rattle.lists.proofs.Sums.{sum_upto}
 use Rattle.geometry.proofs.Places.{order, sizes_alike, correlated_three}
@@ -40,17 +37,6 @@ green_keeps d at n xs l h =
     put_keeps xs at n (plus d (part xs at n) (part xs 0 n)) k h
 
 -- ---- the planes of a correlated family: three of one size, whose rows stand one after another
-
-module _ (h w : ℕ) (lh : h ≤ 16384) (lw : w ≤ 16384) where
-  most : h * w ≤ 268435456
-  most = mul-le-mul lh lw
-
-  -- where B' begins, and where R' does
-  pub blue_fits : Fits w64 (h * w)
-  blue_fits = record { fits = omega (arith, most) }
-
-  pub red_fits : Fits w64 (h * w + h * w)
-  red_fits = record { fits = omega (arith, most) }
 
 module _ (g : Geometry) (r : Bool) (er : r ≡ correlated g.family) (t : r ≡ true) (w h : ℕ) (ew : w ≡ plane_width g 0) (eh : h ≡ plane_height g 0) where
   mixes : correlated g.family ≡ true
@@ -96,10 +82,6 @@ module _ (g : Geometry) (r : Bool) (er : r ≡ correlated g.family) (t : r ≡ t
     pub coloured_both : zs ≡ coloured g xs
     unfolding coloured
     coloured_both = red ∙ rw (mixes, ← size, ← blue)
-
--- a depth is at most 14
-pub depth_most : (g : Geometry) → Sound g → g.depth ≤ 16
-depth_most g ok = omega (arith, ok.deep.1)
 
 -- and nothing where B and R are stored whole
 pub coloured_none : (g : Geometry) (r : Bool) (xs : List ℕ) → r ≡ correlated g.family → r ≡ false → xs ≡ coloured g xs

@@ -16,10 +16,10 @@ use Rattle.preamble.specs.Layout as laid
 use Rattle.preamble.specs.Layout.{layout_checks}
 use Rattle.refusals.proofs.InOrder.{first_passed, then_passed, if_passed}
 use Rattle.scope.specs.declared.Geometry.{Geometry}
-use Rattle.scope.specs.declared.Place.{Place}
 use Rattle.scope.specs.declared.Place.TheVariants.{Nothing}
-use Rattle.scope.specs.declared.Answer.{Answer}
-use Rattle.scope.specs.declared.Answer.TheVariants.{Done, Refused}
+use Rattle.scope.specs.declared.Refusal.{Refusal}
+use Rattle.std.specs.Prelude.{Err}
+use Rattle.scope.specs.Answers.{Answer, done, refused}
 use Rattle.scope.specs.Pieces.{in_order, preamble_checks, index_check}
 
 -- ---- refusals 5 to 7, in the order of the table: each section has one test more behind it
@@ -29,7 +29,7 @@ module _ (frame : List ℕ) (g : Geometry) (t : ℕ) (et : t ≡ slice_count g) 
   start_is = rw et
 
   -- refusal 5
-  pub pre_5 : length frame < 32 + 4 * (t + 1) → Refused 5 Nothing ≡ preamble_checks frame g
+  pub pre_5 : length frame < 32 + 4 * (t + 1) → refused 5 Nothing ≡ preamble_checks frame g
   unfolding pcs.preamble_checks
   pre_5 h = rw (lt-ltb (length frame) (preamble_start g) (rw start_is at h))
 
@@ -38,7 +38,7 @@ module _ (frame : List ℕ) (g : Geometry) (t : ℕ) (et : t ≡ slice_count g) 
     not_5 = le-ltb (length frame) (preamble_start g) (rw start_is at l5)
 
     -- 6: the preamble ends before it starts
-    pub pre_6a : e < 32 + 4 * (t + 1) → Refused 6 Nothing ≡ preamble_checks frame g
+    pub pre_6a : e < 32 + 4 * (t + 1) → refused 6 Nothing ≡ preamble_checks frame g
     unfolding pcs.preamble_checks
     pre_6a h = rw (not_5, ← ee, lt-ltb (e) (preamble_start g) (rw start_is at h))
 
@@ -47,7 +47,7 @@ module _ (frame : List ℕ) (g : Geometry) (t : ℕ) (et : t ≡ slice_count g) 
       not_6a = le-ltb (e) (preamble_start g) (rw start_is at l6)
 
       -- 6: or past the frame
-      pub pre_6b : length frame < e → Refused 6 Nothing ≡ preamble_checks frame g
+      pub pre_6b : length frame < e → refused 6 Nothing ≡ preamble_checks frame g
       unfolding pcs.preamble_checks
       pre_6b h = rw (not_5, ← ee, not_6a, lt-ltb (length frame) (e) h)
 
@@ -56,7 +56,7 @@ module _ (frame : List ℕ) (g : Geometry) (t : ℕ) (et : t ≡ slice_count g) 
         not_6b = le-ltb (length frame) (e) l6b
 
         -- 6: or is empty
-        pub pre_6c : e ≡ 32 + 4 * (t + 1) → Refused 6 Nothing ≡ preamble_checks frame g
+        pub pre_6c : e ≡ 32 + 4 * (t + 1) → refused 6 Nothing ≡ preamble_checks frame g
         unfolding pcs.preamble_checks
         pre_6c h = rw (not_5, ← ee, not_6a, not_6b, eq-eqb (e) (preamble_start g) (h ∙ start_is))
 
@@ -65,7 +65,7 @@ module _ (frame : List ℕ) (g : Geometry) (t : ℕ) (et : t ≡ slice_count g) 
           not_6c = ne_eqb (e) (preamble_start g) (λ z. n6 (z ∙ sym start_is))
 
           -- refusal 7
-          pub pre_7 : (b ≡ planes → ⊥) → Refused 7 Nothing ≡ preamble_checks frame g
+          pub pre_7 : (b ≡ planes → ⊥) → refused 7 Nothing ≡ preamble_checks frame g
           unfolding pcs.preamble_checks
           pre_7 h = rw (not_5, ← ee, not_6a, not_6b, not_6c, ← eb, ne_eqb b (plane_count g) (λ z. h (z ∙ sym ep)))
 
@@ -74,13 +74,13 @@ module _ (frame : List ℕ) (g : Geometry) (t : ℕ) (et : t ≡ slice_count g) 
             not_7 = eq-eqb b (plane_count g) (e7 ∙ ep)
 
             -- 6: it lacks indices
-            pub pre_6d : e < 32 + 4 * (t + 1) + 1 + t → Refused 6 Nothing ≡ preamble_checks frame g
+            pub pre_6d : e < 32 + 4 * (t + 1) + 1 + t → refused 6 Nothing ≡ preamble_checks frame g
             unfolding pcs.preamble_checks
             pre_6d h =
                 rw (not_5, ← ee, not_6a, not_6b, not_6c, ← eb, not_7, lt-ltb (e) (preamble_start g + 1 + slice_count g) (rw et at h))
 
             -- none of them
-            pub pre_0 : 32 + 4 * (t + 1) + 1 + t ≤ e → Done ≡ preamble_checks frame g
+            pub pre_0 : 32 + 4 * (t + 1) + 1 + t ≤ e → done ≡ preamble_checks frame g
             unfolding pcs.preamble_checks
             pre_0 h =
                 rw (not_5, ← ee, not_6a, not_6b, not_6c, ← eb, not_7, le-ltb (e) (preamble_start g + 1 + slice_count g) (rw et at h))
@@ -88,7 +88,7 @@ module _ (frame : List ℕ) (g : Geometry) (t : ℕ) (et : t ≡ slice_count g) 
 pub ruleset preamble = (pre_5, pre_6a, pre_6b, pre_6c, pre_7, pre_6d, pre_0)
 
 -- no refusal up to 7: the plane indices are in the frame
-pub indices_in : (frame : List ℕ) (g : Geometry) → Done ≡ preamble_checks frame g → preamble_start g + 1 + slice_count g ≤ length frame
+pub indices_in : (frame : List ℕ) (g : Geometry) → done ≡ preamble_checks frame g → preamble_start g + 1 + slice_count g ≤ length frame
 unfolding pcs.preamble_checks
 indices_in frame g h =
     let h1 = then_passed (refuse_if (ltb (length frame) (preamble_start g)) 5 Nothing) _ h in
@@ -104,21 +104,21 @@ indices_in frame g h =
 
 module _ (frame : List ℕ) (g : Geometry) where
   -- a refusal up to 7 is the answer
-  pub layout_early : (a : Answer) (n : ℕ) (w : Place) → a ≡ preamble_checks frame g → a ≡ Refused n w → Refused n w ≡ layout_checks frame g
+  pub layout_early : (a : Answer) (why : Refusal) → a ≡ preamble_checks frame g → a ≡ Err why → Err why ≡ layout_checks frame g
   unfolding laid.layout_checks
-  layout_early a n w e h = rw (← e, h)
+  layout_early a why e h = rw (← e, h)
 
   -- else the indices' answer is
-  pub layout_late : (a b : Answer) → a ≡ preamble_checks frame g → a ≡ Done → b ≡ in_order (slice_count g) (index_check frame g) → b ≡ layout_checks frame g
+  pub layout_late : (a b : Answer) → a ≡ preamble_checks frame g → a ≡ done → b ≡ in_order (slice_count g) (index_check frame g) → b ≡ layout_checks frame g
   unfolding laid.layout_checks
   layout_late a b e h k = rw (← e, h) k
 
   -- and these are then in the frame
-  pub indices_told : (a : Answer) → a ≡ preamble_checks frame g → a ≡ Done → preamble_start g + 1 + slice_count g ≤ length frame
+  pub indices_told : (a : Answer) → a ≡ preamble_checks frame g → a ≡ done → preamble_start g + 1 + slice_count g ≤ length frame
   indices_told a e h = indices_in frame g (sym h ∙ e)
 
   -- each slice names a plane that has room for it
-  pub layout_order : Done ≡ layout_checks frame g → Done ≡ in_order (slice_count g) (index_check frame g)
+  pub layout_order : done ≡ layout_checks frame g → done ≡ in_order (slice_count g) (index_check frame g)
   unfolding laid.layout_checks
   layout_order e = then_passed (preamble_checks frame g) _ e
 

@@ -12,7 +12,7 @@ use Rattle.scope.specs.Layout.{plane_index, named_before}
 use Rattle.scope.specs.Pieces as pcs
 use Rattle.scope.specs.declared.Geometry.{Geometry}
 use Rattle.scope.specs.declared.Place.TheVariants.{Slice}
-use Rattle.scope.specs.declared.Answer.TheVariants.{Done, Refused}
+use Rattle.scope.specs.Answers.{done, refused}
 use Rattle.scope.specs.Pieces.{in_order, index_check}
 use Rattle.layout.proofs.Slices.{Counted, counted_start, counted_more}
 use Rattle.refusals.proofs.InOrder.{none_yet, one_passed, one_refused}
@@ -21,7 +21,7 @@ use Rattle.geometry.proofs.Places.{planes_most}
 -- the loop of the check: what it has found before slice s
 pub record Walk (frame : List ℕ) (g : Geometry) (planes k t : ℕ) (seen : List ℕ) (s : ℕ) : Type 0 where
   pub counted : Counted frame g seen s
-  pub passed : Done ≡ in_order s (index_check frame g)
+  pub passed : done ≡ in_order s (index_check frame g)
   pub within : s ≤ t
   pub few : planes ≤ 4
   pub long : length seen ≡ 4
@@ -46,14 +46,14 @@ module _ (frame : List ℕ) (g : Geometry) (planes k t : ℕ) where
 
   module _ (seen : List ℕ) (s : ℕ) (w : Walk frame g planes k t seen s) where
     -- past the last one
-    pub walk_end : t ≤ s → Done ≡ in_order (slice_count g) (index_check frame g)
+    pub walk_end : t ≤ s → done ≡ in_order (slice_count g) (index_check frame g)
     walk_end h =
         let z : s ≡ slice_count g = omega (arith, w.within, w.slices_are) in
         rw z at w.passed
 
     module _ (p : ℕ) (ls : s < t) (ei : p ≡ plane_index frame g s) where
       -- a slice that names no plane
-      pub walk_no_plane : planes ≤ p → Refused 8 (Slice s) ≡ in_order (slice_count g) (index_check frame g)
+      pub walk_no_plane : planes ≤ p → refused 8 (Slice s) ≡ in_order (slice_count g) (index_check frame g)
       unfolding pcs.index_check lay.place_in_plane
       walk_no_plane h =
           one_refused (index_check frame g) (slice_count g) s 8 (Slice s) (rw w.slices_are at ls) w.passed
@@ -63,7 +63,7 @@ module _ (frame : List ℕ) (g : Geometry) (planes k t : ℕ) where
         so_far : get_or seen p 0 ≡ named_before frame g (plane_index frame g s) s
         so_far = let l : p < plane_count g = rw w.planes_are at lp in w.counted.counts p l ∙ ap (λ (y : ℕ). named_before frame g y s) ei
 
-        all_there : k ≤ get_or seen p 0 → Refused 8 (Slice s) ≡ in_order (slice_count g) (index_check frame g)
+        all_there : k ≤ get_or seen p 0 → refused 8 (Slice s) ≡ in_order (slice_count g) (index_check frame g)
         unfolding pcs.index_check lay.place_in_plane
         all_there h =
             one_refused (index_check frame g) (slice_count g) s 8 (Slice s) (rw w.slices_are at ls) w.passed
@@ -94,7 +94,7 @@ pub record PlaneFull (frame : List ℕ) (g : Geometry) (planes k t : ℕ) (seen 
 
 -- it is refused
 pub walk_full : {frame : List ℕ} {g : Geometry} {planes k t : ℕ} {seen : List ℕ} {s p : ℕ} → PlaneFull frame g planes k t seen s p
-    → Refused 8 (Slice s) ≡ in_order (slice_count g) (index_check frame g)
+    → refused 8 (Slice s) ≡ in_order (slice_count g) (index_check frame g)
 walk_full {frame} {g} {planes} {k} {t} {seen} {s} {p} d = all_there frame g planes k t seen s d.known p d.within d.plane_is d.plane_below d.all
 
 pub ruleset walks = (walk_start, walk_end, walk_no_plane, walk_step, rules)

@@ -3,7 +3,7 @@ use Rattle.std.specs.Prelude.{ℕ, List}
 use Rattle.scope.specs.Refusals.{◌and_then◌}
 use Rattle.scope.specs.Geometry.{slice_count}
 use Rattle.scope.specs.declared.Geometry.{Geometry}
-use Rattle.scope.specs.declared.Answer.{Answer}
+use Rattle.scope.specs.Answers.{Answer}
 use Rattle.scope.specs.Pieces.{in_order, preamble_checks, index_check}
 
 -- refusals 5 to 8

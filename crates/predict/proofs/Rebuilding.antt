@@ -3,13 +3,10 @@
 use mathlib.Core.Path.{◌≡◌, refl, ap, ◌∙◌}
 use mathlib.Core.List.{List}
 use Prim.Native.Nat.{ℕ, suc, ◌+◌, ◌-◌, ◌*◌, ◌^◌, ◌≤◌, ◌<◌}
-use native.Mathlib.Nat.{suc-mul, zero-mul, mul-le-mul_right, mul-le-mul_left}
+use native.Mathlib.Nat.{suc-mul, zero-mul, mul-le-mul_right}
 use native.Mathlib.Decide.{dec_le}
 use native.Mathlib.Numerals.{add-one}
 use native.Mathlib.Omega.{arith}
-use borrow.Author.Rules.{rules}
-use mir.Syntax.{w64}
-use mir.Val.{Fits}
 use lib.ListN.{length, get_or}
 use Rattle.scope.specs.Prediction.{samples_of}
 use Rattle.rows.specs.Rows.{row, Above}
@@ -18,7 +15,6 @@ use Rattle.views.specs.Places.{samples_at, gaps_at, rows_places, Rowed}
 use Rattle.views.proofs.Views.{samples_many}
 use Rattle.views.proofs.Windows.{rows_long, rows_many}
 use Rattle.views.proofs.Elements.{row_get}
-use Rattle.views.proofs.Filling.{row_in, row_fits, row_end_fits}
 use Rattle.predict.proofs.Simulated.{Like, row_like, far}
 
 -- it began with s₀, has made the rows before r, and now holds s
@@ -92,30 +88,3 @@ module _ (depth kind w p h f : ℕ) (s₀ : List ℕ) where
         go : (j : ℕ) → r * p + 1 ≤ j + back + 1 → j + back < r * p + w → Dec (f ≤ r) → get_or s j 0 < 2 ^ depth
         go j l m (yes g) = up j g l m
         go j l m (no g) = absurd (omega (arith, eb, mul-le-mul_right p (lower g), suc-mul r p, ok.wide, m))
-
-    -- the gaps stay
-    pub rebuilds_gaps : gaps_at (rows_places w p h) s ≡ gaps_at (rows_places w p h) s₀
-    rebuilds_gaps = a.gaps
-
-    -- the length stays
-    pub rebuilds_length : length s ≡ length s₀
-    rebuilds_length = a.same
-
-    -- a row lies in the list
-    pub rebuilds_in : r < h → r * p + w ≤ length s
-    rebuilds_in k = omega (arith, a.same, row_in (length s₀) w p h r ok k)
-
--- the row f up stands at least one place back
-pub back_pos : (len w p h f back : ℕ) → Rowed len w p h → back ≡ f * p → 0 < f → 0 < back
-back_pos len w p h f back ok e q = omega (arith, mul-le-mul_right p q, ok.some, ok.wide)
-
--- how far back it stands is a usize
-pub back_fits : (len w p h f : ℕ) → Rowed len w p h → f ≤ 2 → Fits w64 (f * p)
-back_fits len w p h f ok l = record { fits = omega (arith, mul-le-mul_left f ok.most, mul-le-mul_right 16384 l) }
-
--- a row has a sample
-pub row_some : (n w p len h : ℕ) → Rowed len w p h → n < n + w
-row_some n w p len h ok = omega (arith, ok.some)
-
--- what the answers of the loop over the rows search with
-pub ruleset rebuilds = (rebuilds_start, rebuilds_step, rebuilds_end, rebuilds_gaps, rebuilds_above, rebuilds_length, rebuilds_in, back_pos, back_fits, row_fits, row_end_fits, row_some, rules)

@@ -1,4 +1,3 @@
 pub mod Raw
-pub mod Fills
 pub mod Unpacking
 pub mod Once

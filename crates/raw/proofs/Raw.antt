@@ -3,7 +3,7 @@
 use mathlib.Core.Path.{◌≡◌, refl, sym, ap, ◌∙◌}
 use mathlib.Core.Bool.{Bool, true, false}
 use mathlib.Core.List.{List, [], ◌∷◌, ◌++◌}
-use Prim.Native.Nat.{ℕ, zero, suc, ◌+◌, ◌*◌, ◌≤◌, ◌<◌}
+use Prim.Native.Nat.{ℕ, zero, suc, ◌+◌, ◌-◌, ◌*◌, ◌≤◌, ◌<◌}
 use native.Mathlib.Nat.{suc-mul, zero-mul, add-mul, zero-add, suc-add, add-zero, mul-le-mul}
 use native.Mathlib.Omega.{arith}
 use mir.Syntax.{w64}
@@ -24,6 +24,12 @@ use Rattle.bits.proofs.Windows.{packed-length}
 pub raw_bytes : (depth : ℕ) (payload : List ℕ) (first n : ℕ) → depth ≡ 8 → raw_from depth payload first n ≡ take n (drop first payload)
 unfolding raw_from
 raw_bytes depth payload first n e = rw (eq-eqb depth 8 e)
+
+-- a copy of them
+pub raw_copied : (depth : ℕ) (payload : List ℕ) (first n : ℕ) (out : List ℕ) → depth ≡ 8 → out ≡ take (first + n - first) (drop first payload) → out ≡ raw_from depth payload first n
+raw_copied depth payload first n out d e =
+    let k : first + n - first ≡ n = omega arith in
+    e ∙ rw k (sym (raw_bytes depth payload first n d))
 
 -- deeper ones are packed
 raw_deep : (depth : ℕ) (payload : List ℕ) (first n : ℕ) → (depth ≡ 8 → ⊥) → raw_from depth payload first n ≡ packed_from depth payload (first * depth) n
@@ -104,4 +110,4 @@ raw_length depth payload first n r = go (eqb depth 8) refl
         rw (raw_bytes depth payload first n d) (bytes_length payload first n (raw_inside depth payload first n d r))
     go false e = rw (raw_deep depth payload first n (eqb-false depth 8 e)) (packed-length depth payload (first * depth) n)
 
-pub ruleset raws = (raw_packed, raw_inside, raw_near, raw_fits, raw_few, rules)
+pub ruleset raws = (raw_packed, raw_copied, raw_inside, raw_near, raw_fits, raw_few, rules)

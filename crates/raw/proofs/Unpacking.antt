@@ -2,20 +2,19 @@
 -- "deeper raw samples are packed at depth bits, highest bit first"). Assumes nothing.
 use mathlib.Core.Path.{◌≡◌, refl, sym, ap, ◌∙◌}
 use Prim.Native.Nat.{ℕ, ◌+◌, ◌-◌, ◌*◌, ◌/◌, ◌%◌, ◌^◌, ◌≤◌, ◌<◌}
-use native.Mathlib.Nat.{le_refl, add-mul, mod-lt, mul-le-mul, mul-le-mul_right, div-mul-le_self, le-div_iff_mul-le}
+use native.Mathlib.Nat.{le_refl, add-mul, mul-le-mul, mul-le-mul_right, div-mul-le_self, le-div_iff_mul-le}
 use native.Mathlib.Numerals.{add-one}
 use native.Mathlib.Omega.{arith}
 use mathlib.Core.List.{List, [], ◌∷◌, ◌++◌}
 use borrow.Author.Rules.{rules}
 use borrow.Rule.Slice.PartMut.{put_mid, same_len_mid, mid_len, post_of}
 use lib.ListN.{length, take, drop, set, length-set}
-use lib.Pow.{pow_mono}
 use lib.Seq.{length-take-le, take_all, take-suc-set, take-append-add, take-append-le}
-use mir.Syntax.{w16, w64}
+use mir.Syntax.{w64}
 use mir.Val.{Fits}
 use Rattle.scope.specs.Bits as bts
 use Rattle.scope.specs.Bits.{window, packed_from}
-use Rattle.bits.proofs.Windows.{window_head, window_tail, power_some}
+use Rattle.bits.proofs.Windows.{window_head, window_tail}
 use Rattle.raw.specs.Raw.{Unpacked}
 use Rattle.raw.proofs.Raw.{packed_resumes}
 
@@ -83,17 +82,6 @@ cut_is payload at depth x i end v e f h g =
     let q : at / 8 * 8 + end ≡ at + i * depth = omega arith in
     g ∙ rw e (ap (λ (n : ℕ). n % 2 ^ depth) (window_head payload (at / 8 * 8) (end + depth) 64 h) ∙ window_tail payload (at / 8 * 8) end depth)
     ∙ ap (λ (n : ℕ). window payload n depth) q
-
--- what is left of a division by 2^depth fits 16 bits
-pub cut_fits : (y depth d : ℕ) → depth ≤ 16 → d ≡ 2 ^ depth → Fits w16 (y % d)
-cut_fits y depth d h e =
-    let l : 2 ^ depth ≤ 2 ^ 16 = pow_mono h in
-    record { fits = omega (arith, mod-lt y (power_some depth d e)) }
-
-pub cut_out : (x depth d end : ℕ) → d ≡ 2 ^ depth → x / 2 ^ (64 - end) % d ≡ x / 2 ^ (64 - end) % 2 ^ depth
-cut_out x depth d end e = ap (λ (n : ℕ). x / 2 ^ (64 - end) % n) e
-
-pub ruleset cutting = (cut_fits, cut_out, power_some, rules)
 
 -- ---- a few of them
 

@@ -6,6 +6,30 @@ ghost use Rattle.scope.specs.Bits.{window, packed_from};
 ghost use Rattle.raw.specs.Raw.{raw_from, RawIn, Unpacked};
 
 use bits::{eight, peek, power};
+use sample::Sample;
+
+// A width of samples with its reading of raw ones.
+pub trait ReadRaw: Sample {
+    // The raw samples of a payload from sample number `first` on.
+    fn read_raw(payload: &[u8], first: usize, depth: usize, out: &mut [Self])
+        requires depth_value { Self.Depth depth }
+        requires raw_in { RawIn depth payload.now first (length out.old) }
+        ensures { Self.values out.new ≡ raw_from depth payload.now first (length out.old) };
+}
+
+// Depth 8.
+impl ReadRaw for u8 {
+    fn read_raw(payload: &[u8], first: usize, depth: usize, out: &mut [u8]) {
+        raw_u8(payload, first, depth, out);
+    }
+}
+
+// Depths 10, 12 and 14.
+impl ReadRaw for u16 {
+    fn read_raw(payload: &[u8], first: usize, depth: usize, out: &mut [u16]) {
+        raw_u16(payload, first, depth, out);
+    }
+}
 
 // The raw samples of a payload from sample number `first` on, at depth 8: a byte each. `depth` is not read; it stands here so that both
 // widths are called alike.
@@ -14,11 +38,7 @@ pub fn raw_u8(payload: &[u8], first: usize, depth: usize, out: &mut [u8])
     requires raw_in { RawIn depth payload.now first (length out.old) }
     ensures { out.new ≡ raw_from depth payload.now first (length out.old) }
 {
-    let mut i = 0;
-    while i < out.len() {
-        out[i] = payload[first + i];
-        i += 1;
-    }
+    out.copy_from_slice(&payload[first..first + out.len()]);
 }
 
 // The depth bits of a number of 64 that end with its bit number `end`, counted from the highest.
@@ -38,11 +58,9 @@ fn few(payload: &[u8], at: usize, depth: usize, out: &mut [u16])
 {
     let x = eight(payload, at / 8);
     let mut end = at % 8;
-    let mut i = 0;
-    while i < out.len() {
+    for o in out {
         end += depth;
-        out[i] = cut(x, end, depth);
-        i += 1;
+        *o = cut(x, end, depth);
     }
 }
 
@@ -57,6 +75,7 @@ fn groups(payload: &[u8], at: usize, depth: usize, out: &mut [u16]) -> usize
     let g = 56 / depth;
     let mut p = at;
     let mut k = 0;
+    // A `while`: a proof knows nothing of what a turn over `chunks_exact_mut` writes once its borrow is over.
     while g <= out.len() - k {
         if payload.len() < p / 8 + 8 {
             return k;
@@ -82,11 +101,9 @@ fn each(payload: &[u8], at: usize, depth: usize, out: &mut [u16])
     ensures { out.new ≡ packed_from depth payload.now at (length out.old) }
 {
     let mut p = at;
-    let mut i = 0;
-    while i < out.len() {
-        out[i] = sample_at(payload, p, depth);
+    for o in out {
+        *o = sample_at(payload, p, depth);
         p += depth;
-        i += 1;
     }
 }
 

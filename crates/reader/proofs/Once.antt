@@ -14,10 +14,10 @@ use borrow.Fn.World.{ArgsD, ResD}
 use denote.Triple.Clauses.{AtExit}
 use denote.Triple.Entry.{Args, Res}
 use Rattle.reader.specs.declared.Reader.{Reader}
-use Rattle.reader.specs.contracts.over as over
-use Rattle.reader.specs.contracts.position as position
-use Rattle.reader.specs.contracts.word as word
-use Rattle.reader.specs.contracts.past as past
+use Rattle.reader.specs.contracts.Reader.over as over
+use Rattle.reader.specs.contracts.Reader.position as position
+use Rattle.reader.specs.contracts.Reader.word as word
+use Rattle.reader.specs.contracts.Reader.past as past
 use Rattle.reader.specs.contracts.next as next
 use Rattle.reader.proofs.next.Reads as next_reads
 

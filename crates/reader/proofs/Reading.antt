@@ -7,21 +7,19 @@ use native.Mathlib.Omega.{arith}
 use mathlib.Core.List.{List}
 use lib.ListN.{length, set, length-set}
 use lib.Seq.{take_all}
-use mir.Val.{Fits}
-use mir.Syntax.{w64}
-use borrow.Author.Rules.{rules}
 use Rattle.scope.specs.Words.{Chain, symbols, stuck_at, chain_by}
 use Rattle.scope.specs.Lookup.{lookup_in}
-use Rattle.scope.specs.declared.Found.{Found}
-use Rattle.scope.specs.declared.Found.TheVariants.{Word, NoWord}
+use Rattle.scope.specs.Found.{Found}
+use Rattle.std.specs.Prelude.{None, Some}
 use Rattle.codes.specs.Reading.{position_after, Readable, Began}
 use Rattle.codes.proofs.Chains.{no_symbols}
-use Rattle.codes.proofs.Reading.{position_near, began_word, began_stuck, fits_u16, fits_u8}
+use Rattle.codes.proofs.Reading.{position_near, began_word, began_stuck}
 use Rattle.reader.specs.Reading.{reached, WordsRead}
 use Rattle.reader.specs.Stepping.{behind, step_from}
-use Rattle.reader.specs.declared.Stepped.{Stepped}
-use Rattle.reader.specs.declared.Stepped.TheVariants.{Past, Still}
-use Rattle.reader.specs.declared.Reached.TheVariants.{End, Stuck}
+use Rattle.reader.specs.Stepping.{Stepped}
+use Rattle.reader.specs.declared.Passed.{Passed}
+use Rattle.std.specs.Prelude.{None}
+use Rattle.reader.specs.Reading.{reached_end, reached_stuck}
 use Rattle.reader.proofs.Stepping.{Taken, past_taken, still_none}
 
 -- ---- after k words of n
@@ -45,28 +43,28 @@ module _ (look : ℕ → Found) (limit at n : ℕ) (out : List ℕ) (p k : ℕ) 
     inside : k < length out
     inside = omega (arith, d.long)
 
-    module _ (s b : ℕ) (f : o ≡ Past s b) where
-      taken : Taken (look p) p s b
-      taken = past_taken (look p) p s b (sym f ∙ e)
+    module _ (v : Passed) (f : o ≡ Some v) where
+      taken : Taken (look p) p v.symbol v.end
+      taken = past_taken (look p) p v.symbol v.end (sym f ∙ e)
 
       -- one word is read
-      pub reads_step : Reads look limit at n (set out k s) b (k + 1)
+      pub reads_step : Reads look limit at n (set out k v.symbol) v.end (k + 1)
       reads_step = record {
         long = simp length-set d.long;
         asked = d.asked;
-        began = subst (λ (x : ℕ). Began look at (set out k s) x (k + 1)) (sym taken.end) (began_word look at out p k d.began taken.bits s inside taken.word);
+        began = subst (λ (x : ℕ). Began look at (set out k v.symbol) x (k + 1)) (sym taken.end) (began_word look at out p k d.began taken.bits v.symbol inside taken.word);
       }
 
       -- the symbol is below the element's limit
-      pub reads_below : s < limit
-      reads_below = d.asked.symbol p taken.bits s taken.word
+      pub reads_below : v.symbol < limit
+      reads_below = d.asked.symbol p taken.bits v.symbol taken.word
 
     -- no word
-    none : o ≡ Still → chain_by look at n ≡ stuck_at p
+    none : o ≡ None → chain_by look at n ≡ stuck_at p
     none f = began_stuck look at out p k d.began n h (still_none (look p) p (sym f ∙ e))
 
     -- the reading is stuck at p
-    pub reads_stuck : o ≡ Still → (out' : List ℕ) → WordsRead look at n (Stuck p) out'
+    pub reads_stuck : o ≡ None → (out' : List ℕ) → WordsRead look at n (reached_stuck p) out'
     unfolding reached
     reads_stuck f out' = record {
       answer = ap (λ (c : Chain). reached c (position_after look at n)) (sym (none f));
@@ -81,10 +79,10 @@ module _ (look : ℕ → Found) (limit at n : ℕ) (out : List ℕ) (p k : ℕ) 
   whole h = ap (chain_by look at) (sym (last h)) ∙ d.began.read ∙ ap symbols (take_all k out (omega (arith, d.long)))
 
   -- the reading ends at p
-  pub reads_end : n ≤ k → WordsRead look at n (End p) out
+  pub reads_end : n ≤ k → WordsRead look at n (reached_end p) out
   unfolding reached
   reads_end h = record {
-    answer = ap End (d.began.stands ∙ ap (position_after look at) (last h)) ∙ ap (λ (c : Chain). reached c (position_after look at n)) (sym (whole h));
+    answer = ap reached_end (d.began.stands ∙ ap (position_after look at) (last h)) ∙ ap (λ (c : Chain). reached c (position_after look at n)) (sym (whole h));
     handed = λ ss g. same ss (sym (whole h) ∙ g);
   }
     where
@@ -96,16 +94,10 @@ module _ (look : ℕ → Found) (limit at n : ℕ) (out : List ℕ) (p k : ℕ) 
   reads_near h = go (look p) refl
     where
       go : (o : Found) → look p ≡ o → behind o p < 2 ^ 64
-      go NoWord f = unfold behind in omega (arith, near, d.long, d.asked.near)
-      go (Word l s) f = unfold behind in omega (arith, near, d.long, d.asked.near, d.asked.short p l s f)
-
-  -- the next place is a number of 64 bits
-  pub reads_within : k < n → Fits w64 (k + 1)
-  reads_within h = record { fits = omega (arith, d.long, d.asked.near) }
+      go None f = unfold behind in omega (arith, near, d.long, d.asked.near)
+      go (Some w) f = unfold behind in omega (arith, near, d.long, d.asked.near, d.asked.short p w.length w.symbol f)
 
 -- as `next` asks it of a table
 pub table_near : (table : List ℕ) (m : ℕ) (payload : List ℕ) (limit at n : ℕ) (out : List ℕ) (p k : ℕ)
     → Reads (lookup_in table m payload) limit at n out p k → k < n → behind (lookup_in table m payload p) p < 2 ^ 64
 table_near table m payload limit at n out p k d = reads_near (lookup_in table m payload) limit at n out p k d
-
-pub ruleset reading = (reads_from, reads_step, table_near, reads_below, reads_stuck, reads_end, reads_within, fits_u16, fits_u8, rules)

@@ -7,22 +7,23 @@ use Prim.Native.Nat.{ℕ, ◌+◌, ◌-◌, ◌*◌, ◌≤◌, ◌<◌}
 use native.Mathlib.Nat.{suc-mul, zero-mul, mul-le-mul_right}
 use native.Mathlib.Numerals.{add-one}
 use native.Mathlib.Omega.{arith}
-use borrow.Author.Rules.{rules}
 use borrow.Rule.Slice.PartMut.{put_mid}
 use lib.ListN.{length, take, drop}
 use lib.Seq.{take_at}
 use Rattle.scope.specs.Words as wrd
 use Rattle.scope.specs.Words.{Chain, symbols, stuck_at, chain_by}
-use Rattle.scope.specs.declared.Found.{Found}
+use Rattle.scope.specs.Found.{Found}
 use Rattle.codes.proofs.Chains.{no_symbols}
 use Rattle.codes.proofs.Reading.{then, joined, chain_resumes, position_resumes, position_near}
 use Rattle.views.specs.Places.{samples_at, gaps_at, rows_places, Rowed}
 use Rattle.views.proofs.Views.{only_one}
-use Rattle.views.proofs.Filling.{Fills, fills_start, fills_end, row_fits, row_fits_2, row_end_fits, lent_in, lent_long, lent_back}
+use Rattle.views.proofs.Filling.{Fills, fills_start, fills_end, lent_in, lent_long, lent_back}
 use Rattle.codes.specs.Reading.{position_after, Readable}
+use Rattle.reader.specs.declared.Stuck.{Stuck}
+use Rattle.std.specs.Prelude.{Err}
 use Rattle.reader.specs.Reading.{reached, WordsRead}
-use Rattle.reader.specs.declared.Reached.{Reached}
-use Rattle.reader.specs.declared.Reached.TheVariants.{End, Stuck}
+use Rattle.reader.specs.Reading.{Reached}
+use Rattle.reader.specs.Reading.{reached_end}
 use Rattle.reader.proofs.Chains.{end_chain, end_position, stuck_chain, reading_once}
 
 -- ---- the loop
@@ -48,9 +49,6 @@ module _ (look : ℕ → Found) (limit w p h : ℕ) (s₀ : List ℕ) where
   }
 
   module _ (s : List ℕ) (q r : ℕ) (a : RowsRead look limit w p h s₀ s q r) where
-    pub rows_rowed : Rowed (length s₀) w p h
-    rows_rowed = a.rowed
-
     pub rows_same : length s ≡ length s₀
     rows_same = a.fills.so.same
 
@@ -92,9 +90,9 @@ module _ (look : ℕ → Found) (limit w p h : ℕ) (s₀ : List ℕ) where
           words = rw long at d
 
           -- a row was read
-          pub rows_step : (e : ℕ) → res ≡ End e → RowsRead look limit w p h s₀ (put_mid (r * p) (r * p + w - r * p) s out) e (r + 1)
+          pub rows_step : (e : ℕ) → res ≡ reached_end e → RowsRead look limit w p h s₀ (put_mid (r * p) (r * p + w - r * p) s out) e (r + 1)
           rows_step e f =
-              let here : WordsRead look q w (End e) out = rw f at words in
+              let here : WordsRead look q w (reached_end e) out = rw f at words in
               let next : (r + 1) * w ≡ r * w + w = ap (λ (n : ℕ). n * w) (add-one r) ∙ suc-mul r w in
               let all : take ((r + 1) * w) (samples_at (rows_places w p h) (put_mid (r * p) (r * p + w - r * p) s out)) ≡ take (r * w) (samples_at (rows_places w p h) s) ++ out =
               ap (take ((r + 1) * w)) back.so.front ∙ take_at (take (r * w) (samples_at (rows_places w p h) s) ++ out) _ ((r + 1) * w) back.long
@@ -108,20 +106,20 @@ module _ (look : ℕ → Found) (limit w p h : ℕ) (s₀ : List ℕ) where
               }
 
           -- a row is stuck, and so is the whole
-          pub rows_stuck : (b : ℕ) → res ≡ Stuck b → (v : List ℕ) → WordsRead look 0 (h * w) (Stuck b) v
+          pub rows_stuck : (why : Stuck) → res ≡ Err why → (v : List ℕ) → WordsRead look 0 (h * w) (Err why) v
           unfolding reached
-          rows_stuck b f v =
-              let here : chain_by look q w ≡ stuck_at b = stuck_chain look q w out b (rw f at words) in
-              let row : chain_by look 0 (r * w + w) ≡ stuck_at b = resumed ∙ rw here (unfold joined then in refl) in
+          rows_stuck why f v =
+              let here : chain_by look q w ≡ stuck_at why.at = stuck_chain look q w out why.at (rw f at words) in
+              let row : chain_by look 0 (r * w + w) ≡ stuck_at why.at = resumed ∙ rw here (unfold joined then in refl) in
               let m : h * w ≡ r * w + w + (h * w - (r * w + w)) = omega (arith, suc-mul r w, mul-le-mul_right w k) in
-              let whole : chain_by look 0 (h * w) ≡ stuck_at b = ap (chain_by look 0) m ∙ chain_resumes look (r * w + w) 0 (h * w - (r * w + w)) ∙ rw row (unfold joined in refl) in
+              let whole : chain_by look 0 (h * w) ≡ stuck_at why.at = ap (chain_by look 0) m ∙ chain_resumes look (r * w + w) 0 (h * w - (r * w + w)) ∙ rw row (unfold joined in refl) in
               record {
                 answer = ap (λ (z : Chain). reached z (position_after look 0 (h * w))) (sym whole);
-                handed = λ ss g. absurd (no_symbols b ss (sym whole ∙ g));
+                handed = λ ss g. absurd (no_symbols why.at ss (sym whole ∙ g));
               }
 
     -- all rows are read
-    pub rows_end : h ≤ r → WordsRead look 0 (h * w) (End q) (samples_at (rows_places w p h) s)
+    pub rows_end : h ≤ r → WordsRead look 0 (h * w) (reached_end q) (samples_at (rows_places w p h) s)
     unfolding reached
     rows_end k =
         let last : r ≡ h = omega (arith, a.fills.within) in
@@ -129,7 +127,7 @@ module _ (look : ℕ → Found) (limit w p h : ℕ) (s₀ : List ℕ) where
         let whole : chain_by look 0 (h * w) ≡ symbols (samples_at (rows_places w p h) s) = ap (λ (n : ℕ). chain_by look 0 (n * w)) (sym last) ∙ a.read ∙ ap symbols (sym full) in
         let ended : q ≡ position_after look 0 (h * w) = a.stands ∙ ap (λ (n : ℕ). position_after look 0 (n * w)) last in
         record {
-          answer = ap End ended ∙ ap (λ (z : Chain). reached z (position_after look 0 (h * w))) (sym whole);
+          answer = ap reached_end ended ∙ ap (λ (z : Chain). reached z (position_after look 0 (h * w))) (sym whole);
           handed = λ ss g. same ss (sym whole ∙ g);
         }
       where
@@ -141,7 +139,7 @@ module _ (look : ℕ → Found) (limit w p h : ℕ) (s₀ : List ℕ) where
 pub record SameRows (places : List Bool) (r₁ r₂ : Reached) (s₁ s₂ : List ℕ) : Type 0 where
   pub answer : r₁ ≡ r₂
   pub gaps : gaps_at places s₁ ≡ gaps_at places s₂
-  pub ended : (e : ℕ) → r₁ ≡ End e → s₁ ≡ s₂
+  pub ended : (e : ℕ) → r₁ ≡ reached_end e → s₁ ≡ s₂
 
 module _ {look : ℕ → Found} {n : ℕ} {places : List Bool} {r₁ r₂ : Reached} {found s₁ s₂ : List ℕ} where
   pub rows_once : WordsRead look 0 n r₁ (samples_at places s₁) → gaps_at places s₁ ≡ found
@@ -150,5 +148,3 @@ module _ {look : ℕ → Found} {n : ℕ} {places : List Bool} {r₁ r₂ : Reac
       let same = reading_once p q in
       let gaps : gaps_at places s₁ ≡ gaps_at places s₂ = g ∙ sym h in
       record { answer = same.0; gaps = gaps; ended = λ e f. only_one places (same.1 e f) gaps }
-
-pub ruleset rowing = (rows_start, rows_rowed, rows_same, rows_in, rows_asked, rows_step, rows_stuck, rows_kept, rows_end, rows_gaps, row_fits, row_fits_2, row_end_fits, rules)

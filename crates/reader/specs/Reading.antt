@@ -2,15 +2,25 @@
 -- reading takes every sample from that lookup"). Assumes nothing.
 use Rattle.std.specs.Prelude.{◌≡◌, ℕ, List}
 use Rattle.scope.specs.Words.{Chain, symbols, stuck_at, chain_by}
-use Rattle.scope.specs.declared.Found.{Found}
+use Rattle.scope.specs.Found.{Found}
 use Rattle.codes.specs.Reading.{position_after}
-use Rattle.reader.specs.declared.Reached.{Reached}
-use Rattle.reader.specs.declared.Reached.TheVariants.{End, Stuck}
+use Rattle.std.specs.Prelude.{Result, Ok, Err}
+use Rattle.reader.specs.declared.Stuck.{Stuck}
+
+-- where a reading stands: at the end of its last word, or at a position where no word fits
+abbrev pub Reached : Type 0
+Reached = Result ℕ Stuck
+
+abbrev pub reached_end : (at : ℕ) → Reached
+reached_end at = Ok at
+
+abbrev pub reached_stuck : (at : ℕ) → Reached
+reached_stuck p = Err (record { at = p })
 
 -- what each case says: a chain ends at a position, or no word fits at one
 unfoldable pub reached : Chain → ℕ → Reached
-reached (symbols ss) at = End at
-reached (stuck_at p) at = Stuck p
+reached (symbols ss) at = reached_end at
+reached (stuck_at p) at = reached_stuck p
 
 -- The statement: the answer is the chain's, and the symbols of a chain of n words are what is handed out. What a reading that is stuck
 -- leaves is not said.

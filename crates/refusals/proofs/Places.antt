@@ -12,8 +12,7 @@ use Rattle.scope.specs.declared.Family.{Family}
 use Rattle.scope.specs.declared.Family.TheVariants.{Gray, Rgb, Yuv, Rgba, Yuva}
 use Rattle.scope.specs.declared.Geometry.{Geometry}
 use Rattle.scope.specs.declared.Place.{Place}
-use Rattle.scope.specs.declared.Answer.{Answer}
-use Rattle.scope.specs.declared.Answer.TheVariants.{Done, Refused}
+use Rattle.scope.specs.Answers.{Answer, done, refused}
 use Rattle.scope.specs.Pieces.{room_check, lent_checks, rest_of}
 use Rattle.scope.specs.declared.Entry.{Entry}
 use Rattle.scope.proofs.Table.{in_pieces}
@@ -31,7 +30,7 @@ four_planes Rgba = omega arith
 four_planes Yuva = omega arith
 
 -- a refusal's slice is below T, which is at most 65,536 once refusals 1 to 3 have passed, and its plane is below P
-pub place_small : (which : Entry) (frame : List ℕ) (g : Geometry) (lengths : List ℕ) (planes w : ℕ) → (Done ≡ lent_checks which g (length lengths) planes → slice_count g ≤ 65536) → (a : Answer) (n : ℕ) (p : Place) → a ≡ answer_of which frame g lengths planes w → a ≡ Refused n p → place_number p < 65536
+pub place_small : (which : Entry) (frame : List ℕ) (g : Geometry) (lengths : List ℕ) (planes w : ℕ) → (done ≡ lent_checks which g (length lengths) planes → slice_count g ≤ 65536) → (a : Answer) (n : ℕ) (p : Place) → a ≡ answer_of which frame g lengths planes w → a ≡ refused n p → place_number p < 65536
 place_small which frame g lengths planes w few a n p ea h =
     every_refused Small (lent_checks which g (length lengths) planes and_then rest_of frame g lengths (room_check g lengths w)) n p
     (every_next Small (lent_checks which g (length lengths) planes) (rest_of frame g lengths (room_check g lengths w))

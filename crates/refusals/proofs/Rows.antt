@@ -16,8 +16,8 @@ use Rattle.scope.specs.Frame.{need_of_all, slice_lengths, fewest_bytes, residues
 use Rattle.scope.specs.declared.Geometry.{Geometry}
 use Rattle.scope.specs.declared.Place.{Place}
 use Rattle.scope.specs.declared.Place.TheVariants.{Slice, Plane, Nothing}
-use Rattle.scope.specs.declared.Answer.{Answer}
-use Rattle.scope.specs.declared.Answer.TheVariants.{Done, Refused}
+use Rattle.scope.specs.Answers.{Answer, done, refused}
+use Rattle.std.specs.Prelude.{Ok, Err}
 use Rattle.scope.specs.Pieces.{in_order, lent_checks, preamble_checks, index_check, length_check, room_check, slice_check, readable, read_check, frame_checks, read_checks, rest_of}
 use Rattle.scope.specs.declared.Entry.{Entry}
 use Rattle.scope.proofs.Table.{in_pieces}
@@ -26,7 +26,7 @@ use Rattle.refusals.proofs.InOrder.{first_passed, then_passed, both_passed, each
 
 -- ---- the indices, once they have passed
 
-module _ (frame : List ℕ) (g : Geometry) (s : ℕ) (e : Done ≡ index_check frame g s) where
+module _ (frame : List ℕ) (g : Geometry) (s : ℕ) (e : done ≡ index_check frame g s) where
   passed : (leb (plane_count g) (plane_index frame g s) ≡ false) × (leb (slices_per_plane g) (place_in_plane frame g s) ≡ false)
   unfolding index_check
   passed = both_passed (leb (plane_count g) (plane_index frame g s)) (leb (slices_per_plane g) (place_in_plane frame g s)) 8 8 (Slice s) (Slice s) e
@@ -40,7 +40,7 @@ module _ (frame : List ℕ) (g : Geometry) (s : ℕ) (e : Done ≡ index_check f
   index_room = leb-false _ _ passed.1
 
 -- what the checks of a frame have passed when all have
-pub indices_passed : (frame : List ℕ) (g : Geometry) (lengths : List ℕ) (room : Answer) → Done ≡ frame_checks frame g lengths room → Done ≡ in_order (slice_count g) (index_check frame g)
+pub indices_passed : (frame : List ℕ) (g : Geometry) (lengths : List ℕ) (room : Answer) → done ≡ frame_checks frame g lengths room → done ≡ in_order (slice_count g) (index_check frame g)
 unfolding frame_checks
 indices_passed frame g lengths room e = first_passed (in_order (slice_count g) (index_check frame g)) _ (then_passed (preamble_checks frame g) _ e)
 
@@ -55,13 +55,13 @@ module _ (Q : ℕ → Place → Type 0) where
 
   every_then : (a b : Answer) → Every Q a → Every Q b → Every Q (a and_then b)
   unfolding Every
-  every_then Done b ha hb = hb
-  every_then (Refused n p) b ha hb = ha
+  every_then (Ok _) b ha hb = hb
+  every_then (Err why) b ha hb = ha
 
-  pub every_next : (a b : Answer) → Every Q a → (Done ≡ a → Every Q b) → Every Q (a and_then b)
+  pub every_next : (a b : Answer) → Every Q a → (done ≡ a → Every Q b) → Every Q (a and_then b)
   unfolding Every
-  every_next Done b ha hb = hb refl
-  every_next (Refused n p) b ha hb = ha
+  every_next (Ok _) b ha hb = hb refl
+  every_next (Err why) b ha hb = ha
 
   pub every_one : (t : Bool) (n : ℕ) (p : Place) (b : Answer) → Q n p → Every Q b → Every Q (refuse_if t n p and_then b)
   every_one t n p b h hb = every_then (refuse_if t n p) b (every_if t n p h) hb
@@ -150,6 +150,6 @@ module _ (Q : ℕ → Place → Type 0) where
         (every_then (lent_checks which g (length lengths) planes) (rest_of frame g lengths (room_check g lengths w)) (every_lent which g (length lengths) planes r) (every_rest w))
 
 -- what is said of a refusal, from what is said of the answer
-pub every_refused : (Q : ℕ → Place → Type 0) (a : Answer) (n : ℕ) (p : Place) → Every Q a → a ≡ Refused n p → Q n p
+pub every_refused : (Q : ℕ → Place → Type 0) (a : Answer) (n : ℕ) (p : Place) → Every Q a → a ≡ refused n p → Q n p
 unfolding Every
 every_refused Q a n p h e = rw e at h

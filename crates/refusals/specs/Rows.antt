@@ -5,13 +5,13 @@ use Rattle.scope.specs.Layout.{plane_index}
 use Rattle.scope.specs.declared.Geometry.{Geometry}
 use Rattle.scope.specs.declared.Place.{Place}
 use Rattle.scope.specs.declared.Place.TheVariants.{Slice, Plane, Nothing}
-use Rattle.scope.specs.declared.Answer.{Answer}
-use Rattle.scope.specs.declared.Answer.TheVariants.{Done, Refused}
+use Rattle.scope.specs.Answers.{Answer}
+use Rattle.std.specs.Prelude.{Ok, Err}
 
 -- an answer is a success, or a refusal of which Q holds
 unfoldable pub Every : (ℕ → Place → Type 0) → Answer → Type 0
-Every Q Done = Unit {0}
-Every Q (Refused n p) = Q n p
+Every Q (Ok _) = Unit {0}
+Every Q (Err why) = Q why.0 why.1
 
 -- Q holds of refusals 1 to 4
 pub record LentRows (Q : ℕ → Place → Type 0) : Type 0 where

@@ -8,246 +8,237 @@
 // be printed, ends the program with that error.
 #![tactic(auto)]
 
-ghost use Rattle.std.specs.Prelude.{◌≡◌, ◌*◌, ◌≤◌, length, IfOk};
+ghost use Rattle.std.specs.Prelude.{ℕ, ◌*◌, ◌≤◌, length, IfSome, IfOk};
+ghost use Rattle.std.proofs.Common.{rules};
 
 use cases::{Case, Shape, Told, Verdict};
+use magicyuv::Reply;
 use std::io::Read;
 use std::rt::Files;
 use std::{fs, io};
 
 // ---- what is printed
 
-fn print_wrong(rt: &impl Print, i: usize, what: &str) -> io::Result<()> {
-    println!(rt; "{i} WRONG: {what}")
-}
-
 // 1 where the case is wrong, with a line that says in what.
 fn print_verdict(rt: &impl Print, i: usize, v: Verdict) -> io::Result<usize>
     ensures { IfOk result (λ n. n ≤ 1) }
 {
-    match v {
+    let what = match v {
         Verdict::Right => return Ok(0),
-        Verdict::Number => print_wrong(rt, i, "the number")?,
-        Verdict::Kind => print_wrong(rt, i, "the kind of place")?,
-        Verdict::Place => print_wrong(rt, i, "the place")?,
-        Verdict::Sample => print_wrong(rt, i, "a sample")?,
-        Verdict::Word => print_wrong(rt, i, "a workspace word")?,
-        Verdict::Form => print_wrong(rt, i, "not of the form, or larger than the memory")?,
-    }
+        Verdict::Number => "the number",
+        Verdict::Kind => "the kind of place",
+        Verdict::Place => "the place",
+        Verdict::Sample => "a sample",
+        Verdict::Word => "a workspace word",
+        Verdict::Form => "not of the form, or larger than the memory",
+    };
+    println!(rt; "{i} WRONG: {what}")?;
     Ok(1)
+}
+
+// ---- a width of samples
+
+// 8 bits, for depth 8, or 16 bits, for 10, 12 and 14: how planes of such samples are lent, decoded and compared.
+trait Width: Copy {
+    ghost BYTES: { ℕ };
+
+    // How many bytes of the list a sample takes.
+    const BYTES: usize;
+
+    // A depth that the width's entry serves.
+    const DEPTH: u32;
+
+    fn lend(after: &[u8], number: u32, planes: &mut [Self])
+        requires { BYTES * length planes.old ≤ length after.now };
+
+    fn decode(
+        g: Shape,
+        frame: &[u8],
+        lengths: &[u8],
+        planes: &mut [Self],
+        words: &mut [u32],
+    ) -> Reply;
+
+    fn holds(planes: &[Self], after: &[u8]) -> bool
+        requires { BYTES * length planes.now ≤ length after.now };
+
+    ghost few_bytes: { BYTES ≤ 2 };
+}
+
+impl Width for u8 {
+    ghost BYTES = { 1 };
+
+    const BYTES: usize = 1;
+
+    const DEPTH: u32 = 8;
+
+    ghost few_bytes = { Prim.search rules };
+
+    fn lend(after: &[u8], number: u32, planes: &mut [u8]) {
+        cases::lend_u8(after, number, planes)
+    }
+
+    fn decode(
+        g: Shape,
+        frame: &[u8],
+        lengths: &[u8],
+        planes: &mut [u8],
+        words: &mut [u32],
+    ) -> Reply {
+        magicyuv::magicyuv_decode8(
+            frame,
+            lengths,
+            planes,
+            words,
+            g.width,
+            g.height,
+            g.slice_height,
+            g.family,
+            g.sx,
+            g.sy,
+            g.depth,
+            g.interlaced,
+        )
+    }
+
+    fn holds(planes: &[u8], after: &[u8]) -> bool {
+        cases::holds_u8(planes, after)
+    }
+}
+
+impl Width for u16 {
+    ghost BYTES = { 2 };
+
+    const BYTES: usize = 2;
+
+    const DEPTH: u32 = 10;
+
+    ghost few_bytes = { Prim.search rules };
+
+    fn lend(after: &[u8], number: u32, planes: &mut [u16]) {
+        cases::lend_u16(after, number, planes)
+    }
+
+    fn decode(
+        g: Shape,
+        frame: &[u8],
+        lengths: &[u8],
+        planes: &mut [u16],
+        words: &mut [u32],
+    ) -> Reply {
+        magicyuv::magicyuv_decode16(
+            frame,
+            lengths,
+            planes,
+            words,
+            g.width,
+            g.height,
+            g.slice_height,
+            g.family,
+            g.sx,
+            g.sy,
+            g.depth,
+            g.interlaced,
+        )
+    }
+
+    fn holds(planes: &[u16], after: &[u8]) -> bool {
+        cases::holds_u16(planes, after)
+    }
 }
 
 // ---- a case
 
-// A case of depth 8, in just the memory that it asks for.
-fn replay8(
+// A case, in just the memory that it asks for.
+fn replay<T: Width>(
     c: Case,
     after: &[u8],
     frame: &[u8],
     lengths: &[u8],
-    planes: &mut [u8],
+    planes: &mut [T],
     words: &mut [u32],
 ) -> Verdict
-    requires { length planes.old ≤ length after.now }
+    requires { T.BYTES * length planes.old ≤ length after.now }
 {
-    let g = c.shape;
     let stored = c.stored;
-    cases::lend_u8(after, stored.number, planes);
+    T::lend(after, stored.number, planes);
     cases::lend_words(words);
-    let r = magicyuv::magicyuv_decode8(
-        frame,
-        lengths,
-        planes,
-        words,
-        g.width,
-        g.height,
-        g.slice_height,
-        g.family,
-        g.sx,
-        g.sy,
-        g.depth,
-        g.interlaced,
-    );
+    let reply = T::decode(c.shape, frame, lengths, planes, words);
     let told = Told {
-        number: r.number,
-        kind: r.kind,
-        place: r.place,
+        number: reply.number,
+        kind: reply.kind,
+        place: reply.place,
     };
-    let samples = cases::holds_u8(planes, after);
     cases::judge(
         told,
         stored,
-        samples,
+        T::holds(planes, after),
         cases::holds_words(words, stored.number),
     )
 }
 
-// The same at 10, 12 and 14 bits.
-fn replay16(
+// Of the memory there is a case is lent as much as it asks for.
+fn replay_lent<T: Width>(
     c: Case,
     after: &[u8],
     frame: &[u8],
     lengths: &[u8],
-    planes: &mut [u16],
-    words: &mut [u32],
+    planes: &mut [T],
 ) -> Verdict
-    requires { 2 * length planes.old ≤ length after.now }
+    requires { length planes.old ≤ 400 }
 {
-    let g = c.shape;
-    let stored = c.stored;
-    cases::lend_u16(after, stored.number, planes);
-    cases::lend_words(words);
-    let r = magicyuv::magicyuv_decode16(
+    let mut words = [0; 20000];
+    if planes.len() < c.samples || 20000 < c.words || after.len() != T::BYTES * c.samples {
+        return Verdict::Form;
+    }
+    replay(
+        c,
+        after,
         frame,
         lengths,
-        planes,
-        words,
-        g.width,
-        g.height,
-        g.slice_height,
-        g.family,
-        g.sx,
-        g.sy,
-        g.depth,
-        g.interlaced,
-    );
-    let told = Told {
-        number: r.number,
-        kind: r.kind,
-        place: r.place,
+        &mut planes[..c.samples],
+        &mut words[..c.words],
+    )
+}
+
+// By the entry of a case's width. The other one must refuse the case by 1, since no depth is served by both.
+fn replay_entry<T: Width, Other: Width>(
+    c: Case,
+    after: &[u8],
+    frame: &[u8],
+    lengths: &[u8],
+    planes: &mut [T],
+    other: &mut [Other],
+) -> Verdict
+    requires { length planes.old ≤ 400 }
+{
+    let g = Shape {
+        depth: T::DEPTH,
+        ..c.shape
     };
-    let samples = cases::holds_u16(planes, after);
-    cases::judge(
-        told,
-        stored,
-        samples,
-        cases::holds_words(words, stored.number),
-    )
+    let reply = Other::decode(g, frame, lengths, other, &mut [0; 4]);
+    if reply.number == 1 {
+        return replay_lent(c, after, frame, lengths, planes);
+    }
+    Verdict::Number
 }
 
-// The memory for a case of depth 8, of which it is lent as much as it asks for.
-fn lend8(c: Case, after: &[u8], frame: &[u8], lengths: &[u8]) -> Verdict {
-    let mut planes = [0u8; 400];
-    let mut words = [0u32; 20000];
-    let n = c.samples;
-    let w = c.words;
-    if 400 < n {
-        return Verdict::Form;
-    }
-    if 20000 < w {
-        return Verdict::Form;
-    }
-    if after.len() != n {
-        return Verdict::Form;
-    }
-    replay8(
-        c,
-        after,
-        frame,
-        lengths,
-        &mut planes[0..n],
-        &mut words[0..w],
-    )
-}
-
-// The same at 10, 12 and 14 bits.
-fn lend16(c: Case, after: &[u8], frame: &[u8], lengths: &[u8]) -> Verdict {
-    let mut planes = [0u16; 400];
-    let mut words = [0u32; 20000];
-    let n = c.samples;
-    let w = c.words;
-    if 400 < n {
-        return Verdict::Form;
-    }
-    if 20000 < w {
-        return Verdict::Form;
-    }
-    if after.len() != 2 * n {
-        return Verdict::Form;
-    }
-    replay16(
-        c,
-        after,
-        frame,
-        lengths,
-        &mut planes[0..n],
-        &mut words[0..w],
-    )
-}
-
-// Whether the entry for the other depths refuses a case of depth 8 by 1.
-fn refused16(g: Shape, frame: &[u8], lengths: &[u8]) -> bool {
-    let mut planes = [0u16; 4];
-    let mut words = [0u32; 4];
-    let r = magicyuv::magicyuv_decode16(
-        frame,
-        lengths,
-        &mut planes,
-        &mut words,
-        g.width,
-        g.height,
-        g.slice_height,
-        g.family,
-        g.sx,
-        g.sy,
-        8,
-        g.interlaced,
-    );
-    r.number == 1
-}
-
-// Whether the entry for depth 8 refuses a case of depth 10 by 1.
-fn refused8(g: Shape, frame: &[u8], lengths: &[u8]) -> bool {
-    let mut planes = [0u8; 4];
-    let mut words = [0u32; 4];
-    let r = magicyuv::magicyuv_decode8(
-        frame,
-        lengths,
-        &mut planes,
-        &mut words,
-        g.width,
-        g.height,
-        g.slice_height,
-        g.family,
-        g.sx,
-        g.sy,
-        10,
-        g.interlaced,
-    );
-    r.number == 1
-}
-
-// By the entry that the case names. The other one must refuse it by 1, since no depth is served by both.
-fn replay_entry(c: Case, after: &[u8], frame: &[u8], lengths: &[u8]) -> Verdict {
-    let g = c.shape;
-    if c.entry == 8 {
-        if refused16(g, frame, lengths) {
-            return lend8(c, after, frame, lengths);
-        }
-        return Verdict::Number;
-    }
-    if c.entry == 16 {
-        if refused8(g, frame, lengths) {
-            return lend16(c, after, frame, lengths);
-        }
-        return Verdict::Number;
-    }
-    Verdict::Form
-}
-
-// A case by its parts, with the lengths that its runs spell.
+// A case by its parts, with the lengths that its runs spell, by the entry that it names.
 fn replay_case(case: &[u8], c: Case, lengths: &mut [u8]) -> Verdict
     requires { (76 ≤ c.after) × (c.after ≤ c.frame) × (c.frame ≤ c.end) × (c.end ≤ length case.now) }
 {
-    let a = c.after;
-    let f = c.frame;
-    let e = c.end;
-    let n = c.lengths;
-    if lengths.len() < n {
+    if lengths.len() < c.lengths {
         return Verdict::Form;
     }
-    cases::spread(&case[76..a], &mut lengths[0..n]);
-    replay_entry(c, &case[a..f], &case[f..e], &lengths[0..n])
+    let lengths = &mut lengths[..c.lengths];
+    cases::spread(&case[76..c.after], lengths);
+    let after = &case[c.after..c.frame];
+    let frame = &case[c.frame..c.end];
+    match c.entry {
+        8 => replay_entry(c, after, frame, lengths, &mut [0u8; 400], &mut [0u16; 4]),
+        16 => replay_entry(c, after, frame, lengths, &mut [0u16; 400], &mut [0u8; 4]),
+        _ => Verdict::Form,
+    }
 }
 
 // ---- the list
@@ -259,28 +250,32 @@ pub struct Taken {
     pub wrong: usize,
 }
 
+// The case at the front of the rest of the list, where that is a whole one.
+fn whole_case(rest: &[u8]) -> Option<Case>
+    ensures { IfSome result (λ c. (76 ≤ c.after) × (c.after ≤ c.frame) × (c.frame ≤ c.end) × (c.end ≤ length rest.now)) }
+{
+    if rest.len() < 76 {
+        return None;
+    }
+    let c = cases::case_of(rest);
+    if rest.len() < c.end {
+        return None;
+    }
+    Some(c)
+}
+
 // The case at the front of the rest of the list; all of the rest where that is no whole case.
 fn replay_next(rt: &impl Print, i: usize, rest: &[u8], lengths: &mut [u8]) -> io::Result<Taken>
     requires { 1 ≤ length rest.now }
     ensures { IfOk result (λ t. (1 ≤ t.bytes) × (t.bytes ≤ length rest.now) × (t.wrong ≤ 1)) }
 {
-    if rest.len() < 76 {
-        return Ok(Taken {
-            bytes: rest.len(),
-            wrong: print_verdict(rt, i, Verdict::Form)?,
-        });
-    }
-    let c = cases::case_of(rest);
-    let end = c.end;
-    if rest.len() < end {
-        return Ok(Taken {
-            bytes: rest.len(),
-            wrong: print_verdict(rt, i, Verdict::Form)?,
-        });
-    }
+    let (bytes, verdict) = match whole_case(rest) {
+        Some(c) => (c.end, replay_case(rest, c, lengths)),
+        None => (rest.len(), Verdict::Form),
+    };
     Ok(Taken {
-        bytes: end,
-        wrong: print_verdict(rt, i, replay_case(rest, c, lengths))?,
+        bytes,
+        wrong: print_verdict(rt, i, verdict)?,
     })
 }
 
@@ -289,6 +284,7 @@ fn replay_all(rt: &impl Print, list: &[u8], lengths: &mut [u8]) -> io::Result<()
     let mut at = 0;
     let mut i = 0;
     let mut wrong = 0;
+    // A `while`, since each case says itself how long it is.
     while at < list.len() {
         let t = replay_next(rt, i, &list[at..], lengths)?;
         at += t.bytes;
@@ -298,25 +294,12 @@ fn replay_all(rt: &impl Print, list: &[u8], lengths: &mut [u8]) -> io::Result<()
     println!(rt; "{i} cases, {wrong} wrong")
 }
 
-// Room for the list.
-fn room() -> [u8; 327680]
-    ensures { 327680 ≡ length result }
-{
-    [0; 327680]
-}
-
-// Room for a case's lengths.
-fn lengths_room() -> [u8; 65536]
-    ensures { 65536 ≡ length result }
-{
-    [0; 65536]
-}
-
 // Reads until the buffer is full, the input ends or a read fails: how many bytes lie at its front now.
 fn read_full(input: &mut impl Read, buffer: &mut [u8]) -> usize
     ensures { result ≤ length buffer.new }
 {
     let mut done = 0;
+    // A `while`, since a read gives as many bytes as it will.
     while done < buffer.len() {
         let n = input.read(&mut buffer[done..]).unwrap_or(0);
         if n == 0 {
@@ -336,8 +319,8 @@ fn read_list(rt: &impl Files, list: &mut [u8]) -> io::Result<usize>
 }
 
 fn main(rt: HostRuntime) -> io::Result<()> {
-    let mut list = room();
+    let mut list = [0; 327680];
     let n = read_list(&rt, &mut list)?;
-    let mut lengths = lengths_room();
+    let mut lengths = [0; 65536]; // of a case
     replay_all(&rt, &list[..n], &mut lengths)
 }

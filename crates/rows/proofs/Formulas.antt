@@ -1,6 +1,6 @@
 -- The predictors as the code goes through them. Document 01: "Left: left. Gradient: left + top − top-left modulo 2^depth.
 -- Median at depth 8 .. Median at 10 to 14: T.87". Assumes nothing.
-use mathlib.Core.Path.{◌≡◌, sym, ap, ◌∙◌}
+use mathlib.Core.Path.{◌≡◌, refl, sym, ap, ◌∙◌}
 use Prim.Native.Nat.{ℕ, ◌+◌, ◌-◌, ◌%◌, ◌^◌, ◌≤◌, ◌<◌, min, max}
 use mathlib.Core.Bool.{cond}
 use native.Mathlib.Nat.{add-mod-mod, mod-add-mod, add-mod_right}
@@ -85,7 +85,7 @@ t87_clamped l t c lo hi x y r el eh ex ey er = go (dec_le (max l t) c) (dec_le c
         simp (lt-leb (max l t) c h', lt-leb c (min l t) k')
         (exact lo hi c x y r o ex ey er (rw el k') (rw eh h') ∙ ap (λ (n : ℕ). n - c) both)
 
--- ---- which predictor a number names, at a place: 1, 2, and any other at depth 8 and above it
+-- ---- which predictor a number names, at a place: 1, 2, and any other
 pub by_left : (depth kind l t c : ℕ) → kind ≡ 1 → predictor depth kind l t c ≡ l
 unfolding predictor
 by_left depth kind l t c e = simp (eq-eqb kind 1 e)
@@ -94,15 +94,20 @@ pub by_gradient : (depth kind l t c : ℕ) → kind ≡ 2 → predictor depth ki
 unfolding predictor
 by_gradient depth kind l t c e = rw e
 
-pub by_clamp : (kind l t c : ℕ) → (kind ≡ 1 → ⊥) → (kind ≡ 2 → ⊥) → predictor 8 kind l t c ≡ clamp_median 8 l t c
-unfolding predictor median
-by_clamp kind l t c h k = simp (ne_eqb kind 1 h, ne_eqb kind 2 k)
+pub by_median : (depth kind l t c : ℕ) → (kind ≡ 1 → ⊥) → (kind ≡ 2 → ⊥) → predictor depth kind l t c ≡ median depth l t c
+unfolding predictor
+by_median depth kind l t c h k = simp (ne_eqb kind 1 h, ne_eqb kind 2 k)
 
-pub by_t87 : (depth kind l t c : ℕ) → (kind ≡ 1 → ⊥) → (kind ≡ 2 → ⊥) → 8 < depth → predictor depth kind l t c ≡ t87_median l t c
-unfolding predictor median
-by_t87 depth kind l t c h k d =
+-- ---- which median a depth names
+pub by_clamp : (l t c : ℕ) → clamp_median 8 l t c ≡ median 8 l t c
+unfolding median
+by_clamp l t c = refl
+
+pub by_t87 : (depth l t c : ℕ) → 8 < depth → t87_median l t c ≡ median depth l t c
+unfolding median
+by_t87 depth l t c d =
     let n : depth ≡ 8 → ⊥ = λ e. omega arith in
-    simp (ne_eqb kind 1 h, ne_eqb kind 2 k, ne_eqb depth 8 n)
+    simp (ne_eqb depth 8 n)
 
 -- what the answers of the predictors search with
 pub ruleset formulas = (gradient-sum, clamped, t87_clamped, rules)

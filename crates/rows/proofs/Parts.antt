@@ -3,20 +3,14 @@
 use mathlib.Core.Path.{◌≡◌, ◌∙◌}
 use mathlib.Core.List.{List}
 use Prim.Native.Nat.{ℕ, ◌+◌, ◌-◌, ◌%◌, ◌^◌, ◌≤◌, ◌<◌}
-use borrow.Author.Rules.{rules}
 use borrow.Author.Tests.{lt-ltb, le-ltb}
-use lib.ListN.{length, get_or, set, length-set}
+use lib.ListN.{get_or, set}
 use Rattle.scope.specs.Base.{Step}
-use Rattle.scope.specs.Prediction.{predictor, gradient, clamp_median, t87_median}
+use Rattle.scope.specs.Prediction.{predictor, gradient, median, clamp_median, t87_median}
 use Rattle.memory.specs.Loop.{swept}
 use Rattle.memory.proofs.InPlace.{swept_same}
 use Rattle.rows.specs.Rows.{leftward, across, row_from, top_row, later_row, row}
-use Rattle.rows.proofs.Formulas.{by_left, by_gradient, by_clamp, by_t87}
-use Rattle.rows.proofs.Across.{above_set}
-
--- a store keeps the length
-pub set_kept : (s ys : List ℕ) (i v : ℕ) → length ys ≡ length (set s i v) → length ys ≡ length s
-set_kept s ys i v e = e ∙ length-set s i v
+use Rattle.rows.proofs.Formulas.{by_left, by_gradient, by_median, by_clamp, by_t87}
 
 module _ (depth : ℕ) (s ys : List ℕ) (start end v : ℕ) where
   -- one of the first f rows
@@ -43,19 +37,21 @@ module _ (depth : ℕ) (s ys : List ℕ) (start end v : ℕ) where
         → ys ≡ later_row depth kind back s start end
     gradient_made h = later_made (across depth (gradient depth) back) (λ i p x. rw (by_gradient depth kind _ _ _ h))
 
-    -- by the Median above depth 8
-    pub t87_made : (kind ≡ 1 → ⊥) → (kind ≡ 2 → ⊥) → 8 < depth
-        → ys ≡ swept (across depth t87_median back) (set s start v) (start + 1) (end - (start + 1))
+    -- by the Median
+    pub median_made : (kind ≡ 1 → ⊥) → (kind ≡ 2 → ⊥) → ys ≡ swept (across depth (median depth) back) (set s start v) (start + 1) (end - (start + 1))
         → ys ≡ later_row depth kind back s start end
-    t87_made h k d = later_made (across depth t87_median back) (λ i p x. rw (by_t87 depth kind _ _ _ h k d))
+    median_made h k = later_made (across depth (median depth) back) (λ i p x. rw (by_median depth kind _ _ _ h k))
 
--- and by the Median of depth 8
-pub clamp_made : (s ys : List ℕ) (start end v kind back : ℕ) → v ≡ (get_or s start 0 + get_or s (start - back) 0) % 2 ^ 8
-    → (kind ≡ 1 → ⊥) → (kind ≡ 2 → ⊥)
-    → ys ≡ swept (across 8 (clamp_median 8) back) (set s start v) (start + 1) (end - (start + 1))
-    → ys ≡ later_row 8 kind back s start end
-clamp_made s ys start end v kind back e h k =
-    later_made 8 s ys start end v kind back e (across 8 (clamp_median 8) back) (λ i p x. rw (by_clamp kind _ _ _ h k))
+-- ---- a sweep by the median of a width is one by the median of its depth
+pub clamp_swept : (depth back : ℕ) (s ys : List ℕ) (a n : ℕ) → depth ≡ 8 → ys ≡ swept (across 8 (clamp_median 8) back) s a n
+    → ys ≡ swept (across depth (median depth) back) s a n
+clamp_swept depth back s ys a n d e =
+    rw d (e ∙ swept_same (across 8 (median 8) back) (across 8 (clamp_median 8) back) (λ i p x. rw (by_clamp _ _ _)) s a n)
+
+pub t87_swept : (depth back : ℕ) (s ys : List ℕ) (a n : ℕ) → 8 < depth → ys ≡ swept (across depth t87_median back) s a n
+    → ys ≡ swept (across depth (median depth) back) s a n
+t87_swept depth back s ys a n d e =
+    e ∙ swept_same (across depth (median depth) back) (across depth t87_median back) (λ i p x. rw (by_t87 depth _ _ _ d)) s a n
 
 -- a row among the first f
 pub row_first : (depth kind back : ℕ) (s ys : List ℕ) (start end : ℕ) → start < back → ys ≡ top_row depth s start end
@@ -68,6 +64,3 @@ pub row_later : (depth kind back : ℕ) (s ys : List ℕ) (start end : ℕ) → 
     → ys ≡ row depth kind back s start end
 unfolding row
 row_later depth kind back s ys start end h e = simp (le-ltb start back h) e
-
--- what the answers of the row functions search with
-pub ruleset row_parts = (set_kept, first_made, left_made, gradient_made, clamp_made, t87_made, row_first, row_later, above_set, rules)

@@ -5,9 +5,21 @@ use Rattle.std.proofs.Common.{◌≡◌, sym, ◌∙◌}
 use contract.Lifetimes.{Lfts}
 use borrow.Fn.World.{ArgsD, ResD}
 use denote.Triple.Clauses.{AtExit}
-use Rattle.rows16.specs.contracts.row as row
-use Rattle.rows16.proofs.row.Reads as row_reads
+use Rattle.rows16.specs.contracts.left_row_u16 as left_row_u16
+use Rattle.rows16.proofs.left_row_u16.Reads as left_row_u16_reads
+use Rattle.rows16.specs.contracts.gradient_row_u16 as gradient_row_u16
+use Rattle.rows16.proofs.gradient_row_u16.Reads as gradient_row_u16_reads
+use Rattle.rows16.specs.contracts.median_row_u16 as median_row_u16
+use Rattle.rows16.proofs.median_row_u16.Reads as median_row_u16_reads
 
-pub row_once : (κs : Lfts 1) (a : ArgsD row.signature κs) (r₁ r₂ : ResD row.signature κs) (s₁ s₂ : AtExit row.ended κs)
-    → row_reads.Post κs a r₁ s₁ → row_reads.Post κs a r₂ s₂ → s₁.1.0.now ≡ s₂.1.0.now
-row_once κs a r₁ r₂ s₁ s₂ p q = p ∙ sym q
+pub left_row_u16_once : (κs : Lfts 1) (a : ArgsD left_row_u16.signature κs) (r₁ r₂ : ResD left_row_u16.signature κs) (s₁ s₂ : AtExit left_row_u16.ended κs)
+    → left_row_u16_reads.Post κs a r₁ s₁ → left_row_u16_reads.Post κs a r₂ s₂ → s₁.0.now ≡ s₂.0.now
+left_row_u16_once κs a r₁ r₂ s₁ s₂ p q = p ∙ sym q
+
+pub gradient_row_u16_once : (κs : Lfts 1) (a : ArgsD gradient_row_u16.signature κs) (r₁ r₂ : ResD gradient_row_u16.signature κs) (s₁ s₂ : AtExit gradient_row_u16.ended κs)
+    → gradient_row_u16_reads.Post κs a r₁ s₁ → gradient_row_u16_reads.Post κs a r₂ s₂ → s₁.0.now ≡ s₂.0.now
+gradient_row_u16_once κs a r₁ r₂ s₁ s₂ p q = p ∙ sym q
+
+pub median_row_u16_once : (κs : Lfts 1) (a : ArgsD median_row_u16.signature κs) (r₁ r₂ : ResD median_row_u16.signature κs) (s₁ s₂ : AtExit median_row_u16.ended κs)
+    → median_row_u16_reads.Post κs a r₁ s₁ → median_row_u16_reads.Post κs a r₂ s₂ → s₁.0.now ≡ s₂.0.now
+median_row_u16_once κs a r₁ r₂ s₁ s₂ p q = p ∙ sym q

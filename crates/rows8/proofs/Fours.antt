@@ -73,16 +73,5 @@ four_kept s n i v₀ v₁ v₂ v₃ e = simp length-set e
 pub no_sum : (x : ℕ) → (x + 0) % 2 ^ 8 ≡ x % 2 ^ 8
 no_sum x = omega arith
 
--- the places of the second, third and fourth stand in the list, also while the four are made
-module _ (s : List ℕ) (i end v₀ v₁ v₂ : ℕ) (k : 4 ≤ end - i) (l : end ≤ length s) where
-  pub in_second : i + 1 < length (set s i v₀)
-  in_second = simp length-set (omega arith)
-
-  pub in_third : i + 2 < length (set (set s i v₀) (i + 1) v₁)
-  in_third = simp length-set (omega arith)
-
-  pub in_fourth : i + 3 < length (set (set (set s i v₀) (i + 1) v₁) (i + 2) v₂)
-  in_fourth = simp length-set (omega arith)
-
 -- what the answers of the loop by fours search with
 pub ruleset fours = (swept_none, no_sum, four_left, rules)

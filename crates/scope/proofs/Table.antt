@@ -19,19 +19,19 @@ use Rattle.scope.specs.declared.Entry.{Entry}
 use Rattle.scope.specs.declared.Geometry.{Geometry}
 use Rattle.scope.specs.declared.Place.{Place}
 use Rattle.scope.specs.declared.Place.TheVariants.{Plane, Nothing}
-use Rattle.scope.specs.declared.Answer.{Answer}
-use Rattle.scope.specs.declared.Answer.TheVariants.{Done, Refused}
+use Rattle.scope.specs.Answers.{Answer, done, refused}
+use Rattle.std.specs.Prelude.{Ok, Err}
 
 -- ---- a list of rows
 
 -- nothing more to check
-then_done : (a : Answer) → a ≡ (a and_then Done)
-then_done Done = refl
-then_done (Refused n p) = refl
+then_done : (a : Answer) → a ≡ (a and_then done)
+then_done (Ok _) = refl
+then_done (Err why) = refl
 
 then_then : (a b c : Answer) → ((a and_then b) and_then c) ≡ (a and_then b and_then c)
-then_then Done b c = refl
-then_then (Refused n p) b c = refl
+then_then (Ok _) b c = refl
+then_then (Err why) b c = refl
 
 -- a row, then the others
 pub first_cons : (r : Row) (rows : List Row) → first_of (r ∷ rows) ≡ (refuse_if r.applies r.number r.place and_then first_of rows)
@@ -56,30 +56,30 @@ first_each (suc n) rows = first_append (rows_of_each n rows) (rows n) ∙ ap (λ
 -- ---- exactly when
 
 -- nothing is refused exactly when no row applies
-none_done : (rows : List Row) → NoneApplies rows → first_of rows ≡ Done
+none_done : (rows : List Row) → NoneApplies rows → first_of rows ≡ done
 unfolding NoneApplies
 none_done [] h = refl
 none_done (r ∷ rows) h = first_cons r rows ∙ rw (h.0, none_done rows h.1) refl
 
-one_or_other : (n : ℕ) (p : Place) → Refused n p ≡ Done → ⊥
+one_or_other : (n : ℕ) (p : Place) → refused n p ≡ done → ⊥
 one_or_other n p e = let z : ◌≡◌ {A = ℕ} 0 1 = cc in omega (arith, z)
 
-passes : (t : Bool) (n : ℕ) (p : Place) (b : Answer) → (refuse_if t n p and_then b) ≡ Done → (t ≡ false) × (b ≡ Done)
+passes : (t : Bool) (n : ℕ) (p : Place) (b : Answer) → (refuse_if t n p and_then b) ≡ done → (t ≡ false) × (b ≡ done)
 passes false n p b e = (refl, e)
 passes true n p b e = absurd (one_or_other n p e)
 
-done_none : (rows : List Row) → first_of rows ≡ Done → NoneApplies rows
+done_none : (rows : List Row) → first_of rows ≡ done → NoneApplies rows
 unfolding NoneApplies
 done_none [] e = tt
 done_none (r ∷ rows) e =
     let h = passes r.applies r.number r.place (first_of rows) (sym (first_cons r rows) ∙ e) in
     (h.0, done_none rows h.1)
 
-pub planes_when : (rows : List Row) → (first_of rows ≡ Done) ↔ NoneApplies rows
+pub planes_when : (rows : List Row) → (first_of rows ≡ done) ↔ NoneApplies rows
 planes_when rows = (done_none rows, none_done rows)
 
 -- a refusal exactly when a row of its number and place applies and none before it does
-first_refused : (rows : List Row) (n : ℕ) (p : Place) → FirstApplies rows n p → first_of rows ≡ Refused n p
+first_refused : (rows : List Row) (n : ℕ) (p : Place) → FirstApplies rows n p → first_of rows ≡ refused n p
 first_refused rows n p f =
     ap first_of f.split
     ∙ first_append f.before (row n p true ∷ f.after)
@@ -100,16 +100,16 @@ here : (r : Row) (rows : List Row) (n : ℕ) (p : Place) → r ≡ row n p true 
 unfolding NoneApplies
 here r rows n p e = record { before = []; after = rows; split = ap (λ (x : Row). x ∷ rows) e; none = tt }
 
-by_row : (r : Row) (rows : List Row) (n : ℕ) (p : Place) (t : Bool) → r.applies ≡ t → (first_of rows ≡ Refused n p → FirstApplies rows n p)
-    → (refuse_if t r.number r.place and_then first_of rows) ≡ Refused n p → FirstApplies (r ∷ rows) n p
+by_row : (r : Row) (rows : List Row) (n : ℕ) (p : Place) (t : Bool) → r.applies ≡ t → (first_of rows ≡ refused n p → FirstApplies rows n p)
+    → (refuse_if t r.number r.place and_then first_of rows) ≡ refused n p → FirstApplies (r ∷ rows) n p
 by_row r rows n p false h more e = later r rows n p h (more e)
 by_row r rows n p true h more e = here r rows n p (this_row r n p (ap number_of e) (ap place_of e) h)
 
-refused_first : (rows : List Row) (n : ℕ) (p : Place) → first_of rows ≡ Refused n p → FirstApplies rows n p
+refused_first : (rows : List Row) (n : ℕ) (p : Place) → first_of rows ≡ refused n p → FirstApplies rows n p
 refused_first [] n p e = absurd (one_or_other n p (sym e))
 refused_first (r ∷ rows) n p e = by_row r rows n p r.applies refl (refused_first rows n p) (sym (first_cons r rows) ∙ e)
 
-pub exactly_when : (rows : List Row) (n : ℕ) (p : Place) → (first_of rows ≡ Refused n p) ↔ FirstApplies rows n p
+pub exactly_when : (rows : List Row) (n : ℕ) (p : Place) → (first_of rows ≡ refused n p) ↔ FirstApplies rows n p
 exactly_when rows n p = (refused_first rows n p, first_refused rows n p)
 
 -- ---- the table of a frame, in pieces

@@ -6,7 +6,7 @@ use Rattle.scope.specs.Refusals.{Row, row, first_of, left_alone}
 use Rattle.scope.specs.Words.{too_long, overfull, need, chain, is_stuck, symbols_of}
 use Rattle.scope.specs.Lookup.{table_of}
 use Rattle.scope.specs.declared.Place.TheVariants.{Plane, Nothing}
-use Rattle.scope.specs.declared.Answer.{Answer}
+use Rattle.scope.specs.Answers.{Answer}
 
 -- "A table built by itself is refused for more than 16,384 lengths by 4, then by 9, 10 and 11 as above for that one plane"
 abbrev pub build_rows : (ls : Lengths) (workspace_len : ℕ) → List Row

@@ -22,11 +22,10 @@ use Rattle.scope.specs.declared.Family.{Family}
 use Rattle.scope.specs.declared.Family.TheVariants.{Gray, Rgb, Yuv, Rgba, Yuva}
 use Rattle.scope.specs.declared.Geometry.{Geometry}
 use Rattle.scope.specs.declared.SliceAt.{SliceAt}
-use Rattle.scope.specs.declared.Found.{Found}
-use Rattle.scope.specs.declared.Found.TheVariants.{Word, NoWord}
+use Rattle.scope.specs.Found.{Found, some_word}
+use Rattle.std.specs.Prelude.{None, Some}
 use Rattle.scope.specs.declared.Place.TheVariants.{Plane, Nothing}
-use Rattle.scope.specs.declared.Answer.{Answer}
-use Rattle.scope.specs.declared.Answer.TheVariants.{Refused}
+use Rattle.scope.specs.Answers.{Answer, refused}
 
 -- ---- rows, and what it means that they hold
 
@@ -75,8 +74,8 @@ words_of ls = words_below ls (length ls)
 
 -- length and symbol of a word that was found; 0 0 for none
 unfoldable pub found : (word : Found) → List ℕ
-found (Word l s) = l ∷ s ∷ []
-found NoWord = 0 ∷ 0 ∷ []
+found (Some w) = w.length ∷ w.symbol ∷ []
+found None = 0 ∷ 0 ∷ []
 
 -- 1 and the symbols; 0 and the position where no word fits
 unfoldable pub read : (chain : Chain) → List ℕ
@@ -245,7 +244,7 @@ tables =
     ∷ ("2,2,2: the table, an unfilled slot last" of table_of (2 ∷ 2 ∷ 2 ∷ []) is 2 ∷ 258 ∷ 514 ∷ 0 ∷ [])
     ∷ ("1,1: the table" of table_of (1 ∷ 1 ∷ []) is 1 ∷ 257 ∷ [])
     ∷ ("no word: a table of one unfilled slot" of table_of (0 ∷ 0 ∷ []) is 0 ∷ [])
-    ∷ ("a slot and what it says" of packed (Word 3 5) ∷ packed NoWord ∷ [] ++ found (unpacked 1283) ++ found (unpacked 1280) is 1283 ∷ 0 ∷ 3 ∷ 5 ∷ 0 ∷ 0 ∷ [])
+    ∷ ("a slot and what it says" of packed (some_word 3 5) ∷ packed None ∷ [] ++ found (unpacked 1283) ++ found (unpacked 1280) is 1283 ∷ 0 ∷ 3 ∷ 5 ∷ 0 ∷ 0 ∷ [])
     ∷ ("2,2,2: the lookup at 11 and at 10" of found (lookup_in (table_of (2 ∷ 2 ∷ 2 ∷ [])) 2 (0b1110_0000 ∷ []) 0) ++ found (lookup_in (table_of (2 ∷ 2 ∷ 2 ∷ [])) 2 (0b1110_0000 ∷ []) 2) is 0 ∷ 0 ∷ 2 ∷ 2 ∷ [])
     ∷ ("m = 0 and m above 18 find no word" of found (lookup_in (258 ∷ []) 0 [] 0) ++ found (lookup_in (258 ∷ []) 19 [] 0) is 0 ∷ 0 ∷ 0 ∷ 0 ∷ [])
     ∷ ("m = 18 does" of found (lookup_in (258 ∷ []) 18 [] 0) is 2 ∷ 1 ∷ [])
@@ -837,7 +836,7 @@ known_answers =
 -- ---- laws, for what takes lists too long to compute
 
 -- "4 also for more than 268,435,456 samples", whatever the lengths, the payload and the workspace
-pub too_many_samples : (ls : Lengths) (payload : Bytes) (workspace_len : ℕ) → read_answer ls payload 268435457 workspace_len ≡ Refused 4 Nothing
+pub too_many_samples : (ls : Lengths) (payload : Bytes) (workspace_len : ℕ) → read_answer ls payload 268435457 workspace_len ≡ refused 4 Nothing
 unfolding read_answer
 too_many_samples ls payload workspace_len = refl
 

@@ -1,5 +1,7 @@
+pub mod Answers
 pub mod Base
 pub mod Refusals
+pub mod Found
 pub mod Geometry
 pub mod Layout
 pub mod Bits

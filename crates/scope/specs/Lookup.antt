@@ -5,18 +5,18 @@ use Rattle.std.specs.Prelude.{ℕ, zero, suc, ◌+◌, ◌-◌, ◌*◌, ◌/◌
 use Rattle.scope.specs.Base.{Bytes, Lengths, Words, list_below}
 use Rattle.scope.specs.Bits.{window}
 use Rattle.scope.specs.Words.{longest, length_of, word_of, head_below, heads}
-use Rattle.scope.specs.declared.Found.{Found}
-use Rattle.scope.specs.declared.Found.TheVariants.{Word, NoWord}
+use Rattle.scope.specs.Found.{Found, some_word}
+use Rattle.std.specs.Prelude.{None, Some}
 
 -- ---- what one workspace word says: 0, an unfilled slot; 255 in the low byte, go on in the second part; else a word's length
 -- in the low byte and its symbol above it
 
 unfoldable pub packed : (found : Found) → ℕ
-packed NoWord = 0
-packed (Word l s) = s * 256 + l
+packed None = 0
+packed (Some w) = w.symbol * 256 + w.length
 
 unfoldable pub unpacked : (e : ℕ) → Found
-unpacked e = cond (eqb (e % 256) 0) NoWord (Word (e % 256) (e / 256))
+unpacked e = cond (eqb (e % 256) 0) None (some_word (e % 256) (e / 256))
 
 -- ---- the table
 
@@ -26,8 +26,8 @@ begins_in ls k w s = leb (length_of ls s) k && (ltb 0 (length_of ls s) && eqb (w
 
 -- the word that it begins with, among the symbols below n
 unfoldable pub word_in : (ls : Lengths) (k w n : ℕ) → Found
-word_in ls k w zero = NoWord
-word_in ls k w (suc s) = cond (begins_in ls k w s) (Word (length_of ls s) s) (word_in ls k w s)
+word_in ls k w zero = None
+word_in ls k w (suc s) = cond (begins_in ls k w s) (some_word (length_of ls s) s) (word_in ls k w s)
 
 -- slot w of the first part, whose slots have k bits: the first twelve bits of a longer word lead to the second part
 unfoldable pub first_part : (ls : Lengths) (k w : ℕ) → ℕ
@@ -50,8 +50,8 @@ table_of ls =
 
 unfoldable pub lookup_in : (words : Words) (m : ℕ) (payload : Bytes) (at : ℕ) → Found
 lookup_in words m payload at =
-    cond (ltb 18 m) NoWord
-    (cond (eqb m 0) NoWord
+    cond (ltb 18 m) None
+    (cond (eqb m 0) None
     (cond (leb m 12) (unpacked (get_or words (window payload at m) 0))
     (cond (eqb (get_or words (window payload at 12) 0 % 256) 255)
     (unpacked (get_or words (4096 + window payload at m) 0))

@@ -10,12 +10,11 @@ use Rattle.scope.specs.Frame.{lent_rows, preamble_rows, index_rows, length_rows,
 use Rattle.scope.specs.declared.Entry.{Entry}
 use Rattle.scope.specs.declared.Geometry.{Geometry}
 use Rattle.scope.specs.declared.Place.TheVariants.{Plane}
-use Rattle.scope.specs.declared.Answer.{Answer}
-use Rattle.scope.specs.declared.Answer.TheVariants.{Done}
+use Rattle.scope.specs.Answers.{Answer, done}
 
 -- the first refusal of the checks f 0, f 1, .. f (n - 1)
 unfoldable pub in_order : (n : ℕ) (f : ℕ → Answer) → Answer
-in_order zero f = Done
+in_order zero f = done
 in_order (suc n) f = in_order n f and_then f n
 
 -- 1 to 4: what is lent
@@ -51,7 +50,7 @@ module _ (frame : Bytes) (g : Geometry) (lengths : Lengths) where
   unfoldable pub read_check : (s : ℕ) → Answer
   read_check s = first_of (read_rows frame g lengths s)
 
-  -- what is checked before anything is written; `room` is 11's answer, or Done for an entry that needs no workspace
+  -- what is checked before anything is written; `room` is 11's answer, or `done` for an entry that needs no workspace
   unfoldable pub frame_checks : (room : Answer) → Answer
   frame_checks room =
       let indices : Answer = in_order (slice_count g) (index_check frame g) in

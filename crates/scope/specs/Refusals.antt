@@ -3,20 +3,20 @@
 use Rattle.std.specs.Prelude.{◌≡◌, ℕ, zero, suc, Bool, true, false, cond, List, [], ◌∷◌, ◌++◌, leb}
 use Rattle.scope.specs.declared.Place.{Place}
 use Rattle.scope.specs.declared.Place.TheVariants.{Slice, Plane, Nothing}
-use Rattle.scope.specs.declared.Answer.{Answer}
-use Rattle.scope.specs.declared.Answer.TheVariants.{Done, Refused}
+use Rattle.scope.specs.Answers.{Answer, done, refused}
+use Rattle.std.specs.Prelude.{Ok, Err}
 
 -- ---- what an answer says
 
 -- document 01's number of an answer; 0 where nothing is refused
 abbrev pub number_of : (answer : Answer) → ℕ
-number_of Done = 0
-number_of (Refused n p) = n
+number_of (Ok _) = 0
+number_of (Err why) = why.0
 
 -- "Each carries its place: a slice, a plane, or nothing."
 abbrev pub place_of : (answer : Answer) → Place
-place_of Done = Nothing
-place_of (Refused n p) = p
+place_of (Ok _) = Nothing
+place_of (Err why) = why.1
 
 -- a place as two numbers: its kind (0 nothing, 1 a slice, 2 a plane), and which one
 abbrev pub kind_number : (place : Place) → ℕ
@@ -42,18 +42,18 @@ row n p t = record { number = n; place = p; applies = t }
 
 -- refusal n at a place, where a test is true
 abbrev pub refuse_if : (applies : Bool) (number : ℕ) (place : Place) → Answer
-refuse_if true n p = Refused n p
-refuse_if false n p = Done
+refuse_if true n p = refused n p
+refuse_if false n p = done
 
 -- an answer, and where it is no refusal the next
 infixr 15 ◌and_then◌
 abbrev pub ◌and_then◌ : (answer next : Answer) → Answer
-Done and_then b = b
-Refused n p and_then b = Refused n p
+Ok _ and_then b = b
+Err why and_then b = Err why
 
 -- "Checked in this order; the first that applies is given."
 abbrev pub first_of : (rows : List Row) → Answer
-first_of [] = Done
+first_of [] = done
 first_of (r ∷ []) = refuse_if r.applies r.number r.place
 first_of (r ∷ s ∷ rows) = refuse_if r.applies r.number r.place and_then first_of (s ∷ rows)
 
@@ -80,8 +80,8 @@ rows_of_each (suc n) rows = rows_of_each n rows ++ rows n
 -- `good` after success; as found after the refusals numbered up to `last`, which are those given before anything is written;
 -- `cleared`, which is what clearing leaves of it, after any other
 unfoldable pub left_by : (last : ℕ) (answer : Answer) (found cleared good : List ℕ) → List ℕ
-left_by last Done found cleared good = good
-left_by last (Refused n p) found cleared good = cond (leb n last) found cleared
+left_by last (Ok _) found cleared good = good
+left_by last (Err why) found cleared good = cond (leb why.0 last) found cleared
 
 -- a frame: "Refusals 1 to 4 leave planes and workspace as found. All others leave both wholly zero."
 abbrev pub left_by_frame : (answer : Answer) (found cleared good : List ℕ) → List ℕ

@@ -3,8 +3,8 @@
 use Rattle.std.specs.Prelude.{◌≡◌, ℕ, zero, suc, ◌+◌, ◌-◌, ◌*◌, ◌/◌, ◌^◌, ◌<◌, min, max, Bool, true, false, cond, ◌&&◌, ◌||◌, [], ◌∷◌, length, take, get_or, eqb, ltb, leb}
 use Rattle.scope.specs.Base.{Bytes, Lengths, Samples, half_up, one, count, sum_below}
 use Rattle.scope.specs.Bits.{window}
-use Rattle.scope.specs.declared.Found.{Found}
-use Rattle.scope.specs.declared.Found.TheVariants.{Word, NoWord}
+use Rattle.scope.specs.Found.{Found, some_word}
+use Rattle.std.specs.Prelude.{None, Some}
 
 -- ---- lengths
 
@@ -96,9 +96,9 @@ begins_with ls payload at s = ltb 0 (length_of ls s) && eqb (window payload at (
 
 -- the word that they begin with, among the symbols below n
 unfoldable pub word_below : (ls : Lengths) (payload : Bytes) (at n : ℕ) → Found
-word_below ls payload at zero = NoWord
+word_below ls payload at zero = None
 word_below ls payload at (suc s) =
-    cond (begins_with ls payload at s) (Word (length_of ls s) s) (word_below ls payload at s)
+    cond (begins_with ls payload at s) (some_word (length_of ls s) s) (word_below ls payload at s)
 
 -- "the word that the bits there begin with, its length and symbol, or none"
 unfoldable pub word_at : (ls : Lengths) (payload : Bytes) (at : ℕ) → Found
@@ -117,8 +117,8 @@ s before symbols ss = symbols (s ∷ ss)
 s before stuck_at at = stuck_at at
 
 unfoldable pub on_word : (found : Found) (at : ℕ) (go : ℕ → ℕ → Chain) → Chain
-on_word NoWord at go = stuck_at at
-on_word (Word l s) at go = go l s
+on_word None at go = stuck_at at
+on_word (Some w) at go = go w.length w.symbol
 
 -- by any way to look a word up
 unfoldable pub chain_by : (look : ℕ → Found) (at n : ℕ) → Chain

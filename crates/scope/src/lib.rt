@@ -34,7 +34,7 @@ pub struct Geometry {
 
 // One slice, as document 01's "Layout" places it: its number in wire order, the plane that it names and its place there, the plane's rows that the place
 // covers (the first one, and how many) and their width, where the slice starts and ends in the frame, whether it is raw, and its
-// predictor byte. specs/Layout.antt has what each is (`slice_at`).
+// predictor byte. specs/Layout.antt has what each is (`slice_at`). The byte is kept as it stands, since any may: 15 is given as it is read.
 #[derive(Clone, Copy)]
 pub struct SliceAt {
     pub number: usize,
@@ -57,16 +57,17 @@ pub enum Place {
     Nothing,
 }
 
-// What a function of the product answers. A refusal holds its number in document 01's table, and its place.
+// A refusal: its number in document 01's table, and its place. The number is a number, since the table numbers its rows and the theorems about it
+// (`exactly_when`) speak of any.
 #[derive(Clone, Copy)]
-pub enum Answer {
-    Done,
-    Refused(u32, Place),
-}
+pub struct Refusal(pub u32, pub Place);
 
-// What the lookup finds at a bit position: a word's length and symbol, or no word.
+// What a function of the product answers.
+pub type Answer = Result<(), Refusal>;
+
+// A word that the lookup finds at a bit position: its length and its symbol.
 #[derive(Clone, Copy)]
-pub enum Found {
-    Word { length: usize, symbol: usize },
-    NoWord,
+pub struct Word {
+    pub length: usize,
+    pub symbol: usize,
 }

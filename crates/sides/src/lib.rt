@@ -4,9 +4,8 @@
 
 ghost use Rattle.std.specs.Prelude.{◌≡◌, ◌<◌, ◌≤◌};
 ghost use Rattle.scope.specs.Geometry.{slices_per_plane, slice_count, small, plane_width, plane_height, plane_slice_height, rows_at};
-ghost use Rattle.geometry.specs.Sound.{Sound};
 
-use geometry::{is_subsampled, plane_count};
+use geometry::{SoundGeometry, is_subsampled, plane_count};
 use scope::Geometry;
 
 // ---- a plane
@@ -25,62 +24,56 @@ fn is_small(g: Geometry, p: usize) -> bool
     false
 }
 
-pub fn plane_width(g: Geometry, p: usize) -> usize
-    requires { Sound g }
-    ensures { (result ≡ plane_width g p) × (1 ≤ result) × (result ≤ 16384) }
+pub fn plane_width(g: SoundGeometry, p: usize) -> usize
+    ensures { (result ≡ plane_width g.of p) × (1 ≤ result) × (result ≤ 16384) }
 {
-    if is_small(g, p) {
-        return g.width / g.sx;
+    if is_small(g.of, p) {
+        return g.of.width / g.of.sx;
     }
-    g.width
+    g.of.width
 }
 
-pub fn plane_height(g: Geometry, p: usize) -> usize
-    requires { Sound g }
-    ensures { (result ≡ plane_height g p) × (1 ≤ result) × (result ≤ 16384) }
+pub fn plane_height(g: SoundGeometry, p: usize) -> usize
+    ensures { (result ≡ plane_height g.of p) × (1 ≤ result) × (result ≤ 16384) }
 {
-    if is_small(g, p) {
-        return g.height / g.sy;
+    if is_small(g.of, p) {
+        return g.of.height / g.of.sy;
     }
-    g.height
+    g.of.height
 }
 
-pub fn plane_slice_height(g: Geometry, p: usize) -> usize
-    requires { Sound g }
-    ensures { (result ≡ plane_slice_height g p) × (1 ≤ result) × (result ≤ 16384) }
+pub fn plane_slice_height(g: SoundGeometry, p: usize) -> usize
+    ensures { (result ≡ plane_slice_height g.of p) × (1 ≤ result) × (result ≤ 16384) }
 {
-    if is_small(g, p) {
-        return g.slice_height / g.sy;
+    if is_small(g.of, p) {
+        return g.of.slice_height / g.of.sy;
     }
-    g.slice_height
+    g.of.slice_height
 }
 
 // ---- the slices
 
 // K
-pub fn slices_per_plane(g: Geometry) -> usize
-    requires { Sound g }
-    ensures { (result ≡ slices_per_plane g) × (1 ≤ result) × (result ≤ 16384) }
+pub fn slices_per_plane(g: SoundGeometry) -> usize
+    ensures { (result ≡ slices_per_plane g.of) × (1 ≤ result) × (result ≤ 16384) }
 {
-    (g.height + (g.slice_height - 1)) / g.slice_height
+    (g.of.height + (g.of.slice_height - 1)) / g.of.slice_height
 }
 
 // T
-pub fn slice_count(g: Geometry) -> usize
-    requires { Sound g }
-    ensures { (result ≡ slice_count g) × (1 ≤ result) × (result ≤ 65536) }
+pub fn slice_count(g: SoundGeometry) -> usize
+    ensures { (result ≡ slice_count g.of) × (1 ≤ result) × (result ≤ 65536) }
 {
-    let f = g.family;
+    let f = g.of.family;
     let planes = plane_count(f);
     let k = slices_per_plane(g);
     planes * k
 }
 
 // How many rows it has.
-pub fn place_rows(g: Geometry, p: usize, k: usize) -> usize
-    requires sound { Sound g }
-    requires k_bound { k < slices_per_plane g }
-    ensures { (result ≡ rows_at g p k) × (1 ≤ result) × (result ≤ 16384) }
+pub fn place_rows(g: SoundGeometry, p: usize, k: usize) -> usize
+    requires { k < slices_per_plane g.of }
+    ensures { (result ≡ rows_at g.of p k) × (1 ≤ result) × (result ≤ 16384) }
 {
     let full = plane_slice_height(g, p);
     let h = plane_height(g, p);

@@ -1,10 +1,9 @@
 -- What a slice answers, by its predictor byte and by where the reading of its residues ended, and the samples that are rebuilt from them
 -- (document 01, "Refusal numbers": "each 15 before its 14"). Over any lookup and depth. Assumes nothing.
-use mathlib.Core.Path.{◌≡◌, refl, sym, ap, ◌∙◌}
-use mathlib.Core.List.{List}
-use Prim.Native.Nat.{ℕ, ◌≤◌, ◌<◌}
-use borrow.Author.Rules.{rules}
-use borrow.Author.Tests.{le-leb, lt-leb}
+use Rattle.std.proofs.Common.{◌≡◌, refl, sym, ap, ◌∙◌, ℕ, List, true, false}
+use Rattle.std.specs.Prelude.{◌&&◌, leb, Ok, Err, Result}
+use Rattle.std.specs.Result.{MatchResult, IsErrAnd}
+use Rattle.std.proofs.lemmas.Result.{err_from_is_err_and}
 use Rattle.scope.specs.Geometry.{fields}
 use Rattle.scope.specs.Words.{Chain, symbols, stuck_at, symbols_of}
 use Rattle.scope.specs.Prediction.{samples_of}
@@ -12,29 +11,22 @@ use Rattle.scope.specs.Words as wrd
 use Rattle.scope.specs.Pieces as pcs
 use Rattle.scope.specs.declared.Geometry.{Geometry}
 use Rattle.scope.specs.declared.SliceAt.{SliceAt}
-use Rattle.scope.specs.declared.Found.{Found}
-use Rattle.scope.specs.declared.Place.{Place}
+use Rattle.scope.specs.declared.Refusal.{Refusal}
+use Rattle.scope.specs.Found.{Found}
 use Rattle.scope.specs.declared.Place.TheVariants.{Slice, Plane}
-use Rattle.scope.specs.declared.Answer.{Answer}
-use Rattle.scope.specs.declared.Answer.TheVariants.{Done, Refused}
+use Rattle.scope.specs.Answers.{Answer, done, refused, refusal}
 use Rattle.scope.specs.Pieces.{readable}
 use Rattle.reader.specs.Reading as rdg
-use Rattle.reader.specs.Reading.{reached}
-use Rattle.reader.specs.declared.Reached.{Reached}
-use Rattle.reader.specs.declared.Reached.TheVariants.{End, Stuck}
+use Rattle.reader.specs.Reading.{Reached, reached}
+use Rattle.reader.specs.declared.Stuck.{Stuck}
 use Rattle.slice.specs.Slice.{residues_by, end_by, ResiduesRead, read_by, samples_by, answered}
 
 -- ---- the function from where a reading ended to an answer
 
-pub answered_end : (plane : ℕ) (r : Reached) (at : ℕ) → r ≡ End at → Done ≡ answered plane r
+-- where it ended
+answered_end : (plane : ℕ) (r : Reached) (at : ℕ) → r ≡ Ok at → done ≡ answered plane r
 unfolding answered
 answered_end plane r at e = rw e
-
-pub answered-stuck : (plane : ℕ) (r : Reached) (at : ℕ) → r ≡ Stuck at → Refused 14 (Plane plane) ≡ answered plane r
-unfolding answered
-answered-stuck plane r at e = rw e
-
-pub ruleset answers = (answered_end, answered-stuck, rules)
 
 -- it is what a chain answers
 answered_chain : (plane : ℕ) (c : Chain) (at : ℕ) → answered plane (reached c at) ≡ readable plane c
@@ -42,65 +34,65 @@ unfolding answered rdg.reached pcs.readable
 answered_chain plane (symbols ss) at = refl
 answered_chain plane (stuck_at q) at = refl
 
+-- a reading r is handed on as m: where it ended, or a refusal that a closure makes, which is 14 at the plane
+module _ {Said : Stuck → Refusal → Type 0} (plane : ℕ) (says : (s : Stuck) (why : Refusal) → Said s why → why ≡ refusal 14 (Plane plane)) where
+  handed_refusal : (r : Reached) (m : Result ℕ Refusal) (why : Refusal) → MatchResult r (λ at. m ≡ Ok at) (λ s. IsErrAnd m (Said s)) → m ≡ Err why
+      → ◌≡◌ {A = Answer} (Err why) (answered plane r)
+  unfolding answered
+  handed_refusal (Ok at) m why h e = absurd cc
+  handed_refusal (Err s) m why h e =
+      let p = err_from_is_err_and m h in
+      let d : ◌≡◌ {A = Result ℕ Refusal} (Err why) (Err p.0) = sym e ∙ p.1 in
+      let same : why ≡ p.0 = cc in
+      ap Err (same ∙ says s p.0 p.2)
+
+  handed_end : (r : Reached) (m : Result ℕ Refusal) (at : ℕ) → MatchResult r (λ at. m ≡ Ok at) (λ s. IsErrAnd m (Said s)) → m ≡ Ok at → r ≡ Ok at
+  handed_end (Ok n) m at h e =
+      let d : ◌≡◌ {A = Result ℕ Refusal} (Ok n) (Ok at) = sym h ∙ e in
+      let same : n ≡ at = cc in
+      ap Ok same
+  handed_end (Err s) m at h e = let p = err_from_is_err_and m h in absurd cc
+
 -- a chain that did not get stuck has its symbols
-ended_symbols : (c : Chain) (at e : ℕ) → End e ≡ reached c at → c ≡ symbols (symbols_of c)
+ended_symbols : (c : Chain) (at e : ℕ) → Ok e ≡ reached c at → c ≡ symbols (symbols_of c)
 unfolding rdg.reached wrd.symbols_of
 ended_symbols (symbols ss) at e h = refl
 ended_symbols (stuck_at q) at e h = cc
 
--- a refusal is no success
-pub not_done : {n : ℕ} {place : Place} {xs ys : List ℕ} → Refused n place ≡ Done → xs ≡ ys
-not_done e = cc
-
 -- ---- a slice
 
 module _ (look : ℕ → Found) (depth : ℕ) (frame : List ℕ) (a : SliceAt) where
-  -- 15: below Left
-  pub no_kind_0 : a.predictor < 1 → Refused 15 (Slice a.number) ≡ read_by look depth frame a
+  -- 15: below Left, or above Median
+  pub no_kind : leb 1 a.predictor && leb a.predictor 3 ≡ false → refused 15 (Slice a.number) ≡ read_by look depth frame a
   unfolding read_by
-  no_kind_0 h = rw (lt-leb 1 a.predictor h)
+  no_kind h = rw h
 
-  -- or above Median
-  pub no_kind_4 : 1 ≤ a.predictor → 3 < a.predictor → Refused 15 (Slice a.number) ≡ read_by look depth frame a
+module _ {look : ℕ → Found} {depth : ℕ} {frame : List ℕ} {a : SliceAt} {r : Reached} {out : List ℕ} (kind : leb 1 a.predictor && leb a.predictor 3 ≡ true)
+    (read : ResiduesRead look depth frame a r out) where
+  -- the answer is that of the reading's end
+  read_answer : answered a.plane r ≡ read_by look depth frame a
   unfolding read_by
-  no_kind_4 l h = rw (le-leb 1 a.predictor l, lt-leb a.predictor 3 h)
+  read_answer =
+      ap (answered a.plane) read.answer
+      ∙ answered_chain a.plane (residues_by look depth frame a) (end_by look depth frame a)
+      ∙ rw kind
 
--- what is known of a slice once its residues were read
-pub record SliceRead (look : ℕ → Found) (depth : ℕ) (frame : List ℕ) (a : SliceAt) (r : Reached) (out : List ℕ) : Type 0 where
-  pub from_left : 1 ≤ a.predictor
-  pub to_median : a.predictor ≤ 3
-  pub residues : ResiduesRead look depth frame a r out
+  module _ {Said : Stuck → Refusal → Type 0} (m : Result ℕ Refusal) (h : MatchResult r (λ at. m ≡ Ok at) (λ s. IsErrAnd m (Said s)))
+      (says : (s : Stuck) (why : Refusal) → Said s why → why ≡ refusal 14 (Plane a.plane)) where
+    -- a reading that is stuck is refused
+    pub slice_refused : (why : Refusal) → m ≡ Err why → Err why ≡ read_by look depth frame a
+    slice_refused why e = handed_refusal a.plane says r m why h e ∙ read_answer
 
-module _ {look : ℕ → Found} {depth : ℕ} {frame : List ℕ} {a : SliceAt} {r : Reached} {out : List ℕ} where
-  pub slice_read : 1 ≤ a.predictor → a.predictor ≤ 3 → ResiduesRead look depth frame a r out → SliceRead look depth frame a r out
-  slice_read l h d = record { from_left = l; to_median = h; residues = d }
+    -- where it ended, the slice is read
+    pub slice_read : (at : ℕ) → m ≡ Ok at → done ≡ read_by look depth frame a
+    slice_read at e = answered_end a.plane r at (handed_end a.plane says r m at h e) ∙ read_answer
 
-  module _ (w : SliceRead look depth frame a r out) where
-    -- the answer is that of the reading's end
-    read_answer : {x : Answer} → x ≡ answered a.plane r → x ≡ read_by look depth frame a
-    unfolding read_by
-    read_answer e =
-        e
-        ∙ ap (answered a.plane) w.residues.answer
-        ∙ answered_chain a.plane (residues_by look depth frame a) (end_by look depth frame a)
-        ∙ rw (le-leb 1 a.predictor w.from_left, le-leb a.predictor 3 w.to_median)
-
-    -- and where it ended, the samples are rebuilt from the residues
-    read_samples : {at f : ℕ} (g : Geometry) {ys : List ℕ} → r ≡ End at → f ≡ fields g → ys ≡ samples_of depth a.predictor a.width f out → ys ≡ samples_by look depth (fields g) frame a
+    -- and the samples are rebuilt from the residues
+    pub slice_rebuilt : {f : ℕ} (g : Geometry) {ys : List ℕ} (at : ℕ) → m ≡ Ok at → f ≡ fields g → ys ≡ samples_of depth a.predictor a.width f out
+        → ys ≡ samples_by look depth (fields g) frame a
     unfolding samples_by
-    read_samples {at} g e ef ey =
+    slice_rebuilt {f} g at e ef ey =
         let whole : residues_by look depth frame a ≡ symbols (symbols_of (residues_by look depth frame a)) =
-        ended_symbols (residues_by look depth frame a) (end_by look depth frame a) at (sym e ∙ w.residues.answer)
+        ended_symbols (residues_by look depth frame a) (end_by look depth frame a) at (sym (handed_end a.plane says r m at h e) ∙ read.answer)
         in
-        rw ef at ey ∙ ap (samples_of depth a.predictor a.width (fields g)) (w.residues.handed (symbols_of (residues_by look depth frame a)) whole)
-
-    -- all that the reading of a slice promises: where it ended, of the samples ys that were rebuilt
-    pub slice_ends : {at f : ℕ} (g : Geometry) {x : Answer} {ys gaps found : List ℕ} → x ≡ answered a.plane r → r ≡ End at → f ≡ fields g
-        → ys ≡ samples_of depth a.predictor a.width f out → gaps ≡ found
-        → (x ≡ read_by look depth frame a) × ((x ≡ Done → ys ≡ samples_by look depth (fields g) frame a) × (gaps ≡ found))
-    slice_ends g ex e ef ey eg = (read_answer ex, (λ d. read_samples g e ef ey, eg))
-
-    -- and where it is stuck, which is no success
-    pub slice_stops : {at : ℕ} {x : Answer} {ys zs gaps found : List ℕ} → x ≡ answered a.plane r → r ≡ Stuck at → gaps ≡ found
-        → (x ≡ read_by look depth frame a) × ((x ≡ Done → ys ≡ zs) × (gaps ≡ found))
-    slice_stops {at} ex e eg = (read_answer ex, (λ d. not_done (answered-stuck a.plane r at e ∙ sym ex ∙ d), eg))
+        rw ef at ey ∙ ap (samples_of depth a.predictor a.width (fields g)) (read.handed (symbols_of (residues_by look depth frame a)) whole)

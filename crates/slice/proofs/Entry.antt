@@ -13,7 +13,7 @@ use Rattle.scope.specs.Frame as frm
 use Rattle.scope.specs.Pieces as pcs
 use Rattle.scope.specs.Frame.{slice_lengths, residues_of, slice_samples}
 use Rattle.scope.specs.declared.Geometry.{Geometry}
-use Rattle.scope.specs.declared.Found.{Found}
+use Rattle.scope.specs.Found.{Found}
 use Rattle.scope.specs.Pieces.{read_check}
 use Rattle.codes.proofs.Chains.{chain_same}
 use Rattle.slice.specs.Slice.{residues_by, read_by, samples_by}

@@ -6,16 +6,13 @@ use Prim.Native.Nat.{ℕ, ◌+◌, ◌-◌, ◌*◌, ◌≤◌, ◌<◌}
 use native.Mathlib.Nat.{suc-mul, zero-mul, zero-add, mul-le-mul_right}
 use native.Mathlib.Numerals.{add-one}
 use native.Mathlib.Omega.{arith}
-use mir.Syntax.{w64}
-use mir.Val.{Fits}
-use borrow.Author.Rules.{rules}
 use borrow.Rule.Slice.PartMut.{put_mid}
 use lib.ListN.{length, take, drop}
 use Rattle.scope.specs.Bits.{raw_samples}
 use Rattle.raw.specs.Raw.{raw_from, RawIn}
 use Rattle.raw.proofs.Raw.{raw_none, raw_first, raw_resumes, raw_length}
-use Rattle.views.specs.Places.{samples_at, gaps_at, rows_places, Rowed}
-use Rattle.views.proofs.Filling.{Fills, fills_start, fills_end, row_fits, row_fits_2, row_end_fits, lent_in, lent_long, lent_back}
+use Rattle.views.specs.Places.{samples_at, rows_places, Rowed}
+use Rattle.views.proofs.Filling.{Fills, fills_start, fills_end, lent_long, lent_back}
 
 -- the samples of r rows are read
 pub record RawRows (depth : ℕ) (payload : List ℕ) (w p h : ℕ) (s₀ s : List ℕ) (r : ℕ) : Type 0 where
@@ -29,24 +26,9 @@ module _ (depth : ℕ) (payload : List ℕ) (w p h : ℕ) (s₀ : List ℕ) wher
   raw_start a ok = record { fills = rw (zero-mul, raw_none depth payload 0) (fills_start w p h s₀); asked = a; rowed = ok }
 
   module _ (s : List ℕ) (r : ℕ) (a : RawRows depth payload w p h s₀ s r) where
-    pub raw_same : length s ≡ length s₀
-    raw_same = a.fills.so.same
-
-    -- the gaps stay
-    pub raw_gaps : gaps_at (rows_places w p h) s ≡ gaps_at (rows_places w p h) s₀
-    raw_gaps = a.fills.so.gaps
-
     module _ (k : r < h) where
-      -- row r lies within what is lent
-      pub raw_in : r * p + w ≤ length s
-      raw_in = lent_in w p h s₀ s _ r a.fills a.rowed k
-
       long : length (take (r * p + w - r * p) (drop (r * p) s)) ≡ w
       long = lent_long w p h s₀ s _ r a.fills a.rowed k
-
-      -- its first sample's number is a number of 64 bits
-      pub raw_row_fits : Fits w64 (r * w)
-      raw_row_fits = record { fits = omega (arith, a.asked.most, mul-le-mul_right w k, suc-mul r w) }
 
       row_asked : RawIn depth payload (r * w) w
       row_asked =
@@ -72,5 +54,3 @@ module _ (depth : ℕ) (payload : List ℕ) (w p h : ℕ) (s₀ : List ℕ) wher
     raw_end k =
         let last : r ≡ h = omega (arith, a.fills.within) in
         fills_end w p h s₀ s _ r a.fills a.rowed k ∙ ap (λ (n : ℕ). raw_from depth payload 0 (n * w)) last ∙ raw_first depth payload (h * w)
-
-pub ruleset raw_rows = (raw_start, raw_same, raw_in, raw_row_fits, raw_asked, raw_step, raw_end, raw_gaps, row_fits, row_fits_2, row_end_fits, rules)

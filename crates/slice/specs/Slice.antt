@@ -6,15 +6,13 @@ use Rattle.scope.specs.Bits.{raw_samples}
 use Rattle.scope.specs.Words.{Chain, symbols, chain_by, symbols_of}
 use Rattle.scope.specs.Prediction.{samples_of}
 use Rattle.scope.specs.declared.SliceAt.{SliceAt}
-use Rattle.scope.specs.declared.Found.{Found}
+use Rattle.scope.specs.Found.{Found}
 use Rattle.scope.specs.declared.Place.TheVariants.{Slice, Plane}
-use Rattle.scope.specs.declared.Answer.{Answer}
-use Rattle.scope.specs.declared.Answer.TheVariants.{Done, Refused}
+use Rattle.std.specs.Prelude.{Ok, Err}
+use Rattle.scope.specs.Answers.{Answer, done, refused}
 use Rattle.scope.specs.Pieces.{readable}
 use Rattle.codes.specs.Reading.{position_after}
-use Rattle.reader.specs.Reading.{reached}
-use Rattle.reader.specs.declared.Reached.{Reached}
-use Rattle.reader.specs.declared.Reached.TheVariants.{End, Stuck}
+use Rattle.reader.specs.Reading.{Reached, reached}
 
 -- the bytes after the prefix
 abbrev pub payload_in : List ℕ → SliceAt → List ℕ
@@ -58,5 +56,5 @@ samples_by look depth f frame a = samples_of depth a.predictor a.width f (symbol
 
 -- what is answered where a reading ended: "no word fits the next bits" is 14 at the plane
 unfoldable pub answered : ℕ → Reached → Answer
-answered plane (End at) = Done
-answered plane (Stuck at) = Refused 14 (Plane plane)
+answered plane (Ok at) = done
+answered plane (Err at) = refused 14 (Plane plane)

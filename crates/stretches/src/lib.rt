@@ -5,17 +5,15 @@
 ghost use Rattle.std.specs.Prelude.{◌≡◌, ◌+◌, ◌*◌, ◌<◌, ◌≤◌};
 ghost use Rattle.scope.specs.Geometry.{plane_count, plane_height, plane_samples, order_of, plane_start};
 ghost use Rattle.scope.specs.Base.{sum_below};
-ghost use Rattle.geometry.specs.Sound.{Sound};
 ghost use Rattle.stretches.specs.Stretch.{stretch_of, all_elements};
 
-use geometry::{is_correlated, plane_count};
+use geometry::{SoundGeometry, is_correlated, plane_count};
 use scope::Geometry;
 use sides::{plane_height, plane_width};
 use views::Stretch;
 
-fn plane_samples(g: Geometry, p: usize) -> usize
-    requires { Sound g }
-    ensures { (result ≡ plane_samples g p) × (result ≤ 268435456) }
+fn plane_samples(g: SoundGeometry, p: usize) -> usize
+    ensures { (result ≡ plane_samples g.of p) × (result ≤ 268435456) }
 {
     let w = plane_width(g, p);
     let h = plane_height(g, p);
@@ -39,52 +37,46 @@ fn order_of(g: Geometry, p: usize) -> usize
 }
 
 // The samples of the first n planes of the buffer.
-fn samples_below(g: Geometry, n: usize) -> usize
-    requires sound { Sound g }
-    requires n_bound { n ≤ 4 }
-    ensures { (result ≡ sum_below n (plane_samples g)) × (result ≤ n * 268435456) }
+fn samples_below(g: SoundGeometry, n: usize) -> usize
+    requires { n ≤ 4 }
+    ensures { (result ≡ sum_below n (plane_samples g.of)) × (result ≤ n * 268435456) }
 {
     let mut at = 0;
-    let mut b = 0;
-    while b < n {
+    for b in 0..n {
         at += plane_samples(g, b);
-        b += 1;
     }
     at
 }
 
-pub fn all_elements(g: Geometry) -> usize
-    requires { Sound g }
-    ensures { (result ≡ all_elements g) × (result ≤ 1073741824) }
+pub fn all_elements(g: SoundGeometry) -> usize
+    ensures { (result ≡ all_elements g.of) × (result ≤ 1073741824) }
 {
-    let f = g.family;
+    let f = g.of.family;
     let p = plane_count(f);
     samples_below(g, p)
 }
 
 // Where the wire's plane p starts in the buffer.
-fn plane_start(g: Geometry, p: usize) -> usize
-    requires sound { Sound g }
-    requires p_bound { p < plane_count g }
-    ensures { (result ≡ plane_start g p) × (result ≤ 805306368) }
+fn plane_start(g: SoundGeometry, p: usize) -> usize
+    requires { p < plane_count g.of }
+    ensures { (result ≡ plane_start g.of p) × (result ≤ 805306368) }
 {
-    let q = order_of(g, p);
+    let q = order_of(g.of, p);
     samples_below(g, q)
 }
 
 // The rows of the wire's plane p from `row` on.
-pub fn stretch_of(g: Geometry, p: usize, row: usize, rows: usize) -> Stretch
-    requires sound { Sound g }
-    requires p_bound { (p < plane_count g) × (row + rows ≤ plane_height g p) }
-    ensures stretch { result ≡ stretch_of g p row rows }
+pub fn stretch_of(g: SoundGeometry, p: usize, row: usize, rows: usize) -> Stretch
+    requires { (p < plane_count g.of) × (row + rows ≤ plane_height g.of p) }
+    ensures stretch { result ≡ stretch_of g.of p row rows }
     ensures bounds { (result.at ≤ 1073741824) × (1 ≤ result.width) × (result.pitch ≤ 16384) }
 {
     let at = plane_start(g, p);
     let width = plane_width(g, p);
     Stretch {
         at: at + row * width,
-        width: width,
+        width,
         pitch: width,
-        rows: rows,
+        rows,
     }
 }

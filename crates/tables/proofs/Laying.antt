@@ -16,7 +16,7 @@ use Rattle.scope.specs.Lookup.{table_of}
 use Rattle.scope.specs.Frame as frm
 use Rattle.scope.specs.Frame.{need_of_all}
 use Rattle.scope.specs.declared.Geometry.{Geometry}
-use Rattle.scope.specs.declared.Answer.TheVariants.{Done}
+use Rattle.scope.specs.Answers.{done}
 use Rattle.lists.specs.Parts.{part, replaced}
 use Rattle.codes.proofs.Table.{table_length}
 use Rattle.geometry.proofs.Lengths.{part_is}
@@ -27,7 +27,7 @@ use Rattle.tables.proofs.Told.{plane_passed, plane_short, plane_full, from_is, l
 
 -- ---- `build_plane`: n lengths a plane, plane p's from p * n on
 
-module _ (g : Geometry) (lengths : List ℕ) (c : Codes) (is : c ≡ codes_of g lengths) (ok : c.answer ≡ Done) (p : ℕ) (l : p < plane_count g)
+module _ (g : Geometry) (lengths : List ℕ) (c : Codes) (is : c ≡ codes_of g lengths) (ok : c.answer ≡ done) (p : ℕ) (l : p < plane_count g)
     (n : ℕ) (en : n ≡ 2 ^ g.depth) where
   -- what `build_part` asks of the lengths
   pub lay_short : longest (take (p * n + n - p * n) (drop (p * n) lengths)) ≤ 18
@@ -101,15 +101,7 @@ module _ (g : Geometry) (lengths : List ℕ) where
   laid_first ws planes ep = record { holds = refl; long = refl; planes_are = ep; within = omega arith }
 
   module _ (found ws : List ℕ) (planes p : ℕ) (b : LaidBefore found ws planes p) where
-    -- the next plane
-    pub laid_plane : p < planes → p < plane_count g
-    laid_plane l = omega (arith, b.planes_are)
-
-    -- has room
-    pub laid_room : need_of_all g lengths ≤ length found → need_of_all g lengths ≤ length ws
-    laid_room h = omega (arith, b.long)
-
-    -- and is laid
+    -- the next plane is laid
     pub laid_next : (ws' : List ℕ) → p < planes
         → ws' ≡ replaced ws (table_start g lengths p) (plane_need g lengths p) (table_of (lengths_of g lengths p)) → length ws' ≡ length ws
         → LaidBefore found ws' planes (p + 1)

@@ -2,11 +2,9 @@
 -- of the workspace, its longest and its shortest length, and all needs together. Assumes nothing.
 use mathlib.Core.Path.{◌≡◌, refl, sym, ap, ◌∙◌}
 use mathlib.Core.List.{List}
-use Prim.Native.Nat.{ℕ, suc, ◌+◌, ◌-◌, ◌*◌, ◌≤◌, ◌<◌}
+use Prim.Native.Nat.{ℕ, suc, ◌+◌, ◌-◌, ◌≤◌, ◌<◌}
 use native.Mathlib.Omega.{arith}
 use borrow.Author.Tests.{ltb-false}
-use mir.Syntax.{w64}
-use mir.Val.{Fits}
 use lib.ListN.{get_or}
 use Rattle.scope.specs.Base as base
 use Rattle.scope.specs.Geometry.{plane_count, lengths_of}
@@ -17,8 +15,8 @@ use Rattle.scope.specs.Pieces as pcs
 use Rattle.scope.specs.Frame.{need_of_all}
 use Rattle.scope.specs.declared.Geometry.{Geometry}
 use Rattle.scope.specs.declared.Place.TheVariants.{Plane}
-use Rattle.scope.specs.declared.Answer.{Answer}
-use Rattle.scope.specs.declared.Answer.TheVariants.{Done, Refused}
+use Rattle.scope.specs.Answers.{Answer, done}
+use Rattle.std.specs.Prelude.{Ok, Err}
 use Rattle.scope.specs.Pieces.{in_order, length_check}
 use Rattle.codes.proofs.Shortness.{shortest_most}
 use Rattle.geometry.proofs.Places.{planes_most}
@@ -32,13 +30,13 @@ use Rattle.tables.proofs.Arrays.{per_at}
 -- ---- lengths that pass 9 and 10
 
 module _ (g : Geometry) (lengths : List ℕ) (p : ℕ) where
-  pub plane_short : Done ≡ length_check g lengths p → longest (lengths_of g lengths p) ≤ 18
+  pub plane_short : done ≡ length_check g lengths p → longest (lengths_of g lengths p) ≤ 18
   unfolding pcs.length_check wrd.too_long
   plane_short e =
       ltb-false 18 (longest (lengths_of g lengths p))
       (both_passed (too_long (lengths_of g lengths p)) (overfull (lengths_of g lengths p)) 9 10 (Plane p) (Plane p) e).0
 
-  pub plane_full : Done ≡ length_check g lengths p → shares (lengths_of g lengths p) ≤ 262144
+  pub plane_full : done ≡ length_check g lengths p → shares (lengths_of g lengths p) ≤ 262144
   unfolding pcs.length_check wrd.overfull
   plane_full e =
       ltb-false 262144 (shares (lengths_of g lengths p))
@@ -49,8 +47,8 @@ module _ (g : Geometry) (lengths : List ℕ) (p : ℕ) where
 module _ (g : Geometry) (lengths : List ℕ) where
   by_answer : (a : Answer) → (codes_by g lengths a).answer ≡ a
   unfolding codes_by codes_up_to no_codes
-  by_answer Done = refl
-  by_answer (Refused n p) = refl
+  by_answer (Ok _) = refl
+  by_answer (Err why) = refl
 
 -- ---- c is the codes of g and lengths
 
@@ -61,8 +59,8 @@ module _ (g : Geometry) (lengths : List ℕ) (c : Codes) (is : c ≡ codes_of g 
   answer_is = ap (λ (x : Codes). x.answer) is ∙ by_answer g lengths (in_order (plane_count g) (length_check g lengths))
 
   -- no plane is refused
-  module _ (ok : c.answer ≡ Done) where
-    pub all_passed : Done ≡ in_order (plane_count g) (length_check g lengths)
+  module _ (ok : c.answer ≡ done) where
+    pub all_passed : done ≡ in_order (plane_count g) (length_check g lengths)
     all_passed = sym ok ∙ answer_is
 
     known : c ≡ codes_up_to g lengths (plane_count g)
@@ -79,12 +77,8 @@ module _ (g : Geometry) (lengths : List ℕ) (c : Codes) (is : c ≡ codes_of g 
       pub plane_four : p < 4
       plane_four = omega (arith, l, planes_most g.family)
 
-      -- its place in an array
-      pub plane_offset : Fits w64 (p * 8)
-      plane_offset = record { fits = omega (arith, plane_four) }
-
       -- passes
-      pub plane_passed : Done ≡ length_check g lengths p
+      pub plane_passed : done ≡ length_check g lengths p
       plane_passed = each_passed (length_check g lengths) (plane_count g) p all_passed l
 
       -- its table starts here

@@ -12,13 +12,12 @@ use Rattle.scope.specs.Base.{sum_below}
 use Rattle.scope.specs.Geometry.{plane_count, lengths_of}
 use Rattle.scope.specs.Words.{longest, shortest}
 use Rattle.scope.specs.declared.Geometry.{Geometry}
-use Rattle.scope.specs.declared.Place.{Place}
-use Rattle.scope.specs.declared.Answer.{Answer}
-use Rattle.scope.specs.declared.Answer.TheVariants.{Done, Refused}
+use Rattle.scope.specs.Answers.{Answer, done, refused}
 use Rattle.scope.specs.Pieces.{in_order, length_check}
 use Rattle.words.specs.Weigh.{weighed, weighed_answer}
-use Rattle.words.specs.declared.Weighed.{Weighed}
-use Rattle.words.specs.declared.Weighed.TheVariants as weight
+use Rattle.std.specs.Prelude.{Result, Ok, Err}
+use Rattle.scope.specs.declared.Refusal.{Refusal}
+use Rattle.words.specs.declared.Code.{Code}
 use Rattle.words.proofs.Weighing.{code_passes, code_longest, code_shortest, code_need, weighed_check}
 use Rattle.geometry.proofs.Places.{planes_most}
 use Rattle.geometry.proofs.Lengths.{part_is}
@@ -31,7 +30,7 @@ use Rattle.tables.proofs.Arrays.{per_start, per_more}
 -- ---- one plane's lengths
 
 -- weighing the part that is plane p's lengths
-pub weighed-part : (g : Geometry) (lengths : List ℕ) (p n : ℕ) (w : Weighed) → n ≡ 2 ^ g.depth
+pub weighed-part : (g : Geometry) (lengths : List ℕ) (p n : ℕ) (w : Result Code Refusal) → n ≡ 2 ^ g.depth
     → w ≡ weighed (take (p * n + n - p * n) (drop (p * n) lengths)) p → w ≡ weighed (lengths_of g lengths p) p
 weighed-part g lengths p n w en e = e ∙ ap (λ (l : List ℕ). weighed l p) (part_is g lengths p n en)
 
@@ -48,9 +47,9 @@ codes_same a b ea ef et el es en =
     ∙ ap (λ (x : ℕ). record { answer = b.answer; from = b.from; to = b.to; longest = b.longest; shortest = b.shortest; need = x }) en
 
 -- no plane yet
-codes_none : (g : Geometry) (lengths : List ℕ) → no_codes Done ≡ codes_up_to g lengths 0
+codes_none : (g : Geometry) (lengths : List ℕ) → no_codes done ≡ codes_up_to g lengths 0
 unfolding no_codes codes_up_to table_start base.sum_below
-codes_none g lengths = codes_same (no_codes Done) (codes_up_to g lengths 0) refl (per_start _) (per_start _) (per_start _) (per_start _) refl
+codes_none g lengths = codes_same (no_codes done) (codes_up_to g lengths 0) refl (per_start _) (per_start _) (per_start _) (per_start _) refl
 
 -- one plane more
 codes_more : (g : Geometry) (lengths : List ℕ) (p m s n : ℕ) → p < 4 → m ≡ longest (lengths_of g lengths p) → s ≡ shortest (lengths_of g lengths p)
@@ -69,14 +68,14 @@ codes_more g lengths p m s n l em es en =
 -- the planes before p pass, and c is their codes
 pub record CodesBefore (g : Geometry) (lengths : List ℕ) (c : Codes) (planes p : ℕ) : Type 0 where
   pub codes : c ≡ codes_up_to g lengths p
-  pub passed : Done ≡ in_order p (length_check g lengths)
+  pub passed : done ≡ in_order p (length_check g lengths)
   pub bounded : table_start g lengths p ≤ p * 266240
   pub planes_are : planes ≡ plane_count g
   pub within : p ≤ planes
 
 module _ (g : Geometry) (lengths : List ℕ) where
   -- before the first plane
-  pub before_first : (c : Codes) (planes : ℕ) → planes ≡ plane_count g → c ≡ no_codes Done → CodesBefore g lengths c planes 0
+  pub before_first : (c : Codes) (planes : ℕ) → planes ≡ plane_count g → c ≡ no_codes done → CodesBefore g lengths c planes 0
   unfolding table_start base.sum_below
   before_first c planes ep e = record {
     codes = e ∙ codes_none g lengths;
@@ -92,7 +91,7 @@ module _ (g : Geometry) (lengths : List ℕ) where
     unfolding codes_of codes_by
     before_end h =
         let e : p ≡ plane_count g = omega (arith, b.within, b.planes_are) in
-        let d : in_order (plane_count g) (length_check g lengths) ≡ Done = ap (λ (k : ℕ). in_order k (length_check g lengths)) (sym e) ∙ sym b.passed in
+        let d : in_order (plane_count g) (length_check g lengths) ≡ done = ap (λ (k : ℕ). in_order k (length_check g lengths)) (sym e) ∙ sym b.passed in
         b.codes ∙ ap (codes_up_to g lengths) e ∙ sym (ap (codes_by g lengths) d)
 
     module _ (l : p < planes) where
@@ -110,33 +109,33 @@ module _ (g : Geometry) (lengths : List ℕ) where
           let e : c.need ≡ table_start g lengths p = ap (λ (x : Codes). x.need) b.codes in
           omega (arith, e, b.bounded, before_four)
 
-      module _ (w : Weighed) (is : w ≡ weighed (lengths_of g lengths p) p) where
+      module _ (w : Result Code Refusal) (is : w ≡ weighed (lengths_of g lengths p) p) where
         -- the plane is refused
-        pub before_refused : (n : ℕ) (q : Place) → w ≡ weight.Refused n q → (r : Codes) → r ≡ no_codes (Refused n q) → r ≡ codes_of g lengths
+        pub before_refused : (why : Refusal) → w ≡ Err why → (r : Codes) → r ≡ no_codes (Err why) → r ≡ codes_of g lengths
         unfolding codes_of codes_by
-        before_refused n q e r er =
-            let a : Refused n q ≡ length_check g lengths p = ap weighed_answer (sym e ∙ is) ∙ weighed_check g lengths p in
-            let d : Refused n q ≡ in_order (plane_count g) (length_check g lengths) =
-            one_refused (length_check g lengths) (plane_count g) p n q before_plane b.passed a in
+        before_refused why e r er =
+            let a : refused why.0 why.1 ≡ length_check g lengths p = ap weighed_answer (sym e ∙ is) ∙ weighed_check g lengths p in
+            let d : refused why.0 why.1 ≡ in_order (plane_count g) (length_check g lengths) =
+            one_refused (length_check g lengths) (plane_count g) p why.0 why.1 before_plane b.passed a in
             er ∙ ap (codes_by g lengths) d
 
         -- it passes
-        module _ (m s n : ℕ) (e : w ≡ weight.Code m s n) where
-          code : weighed (lengths_of g lengths p) p ≡ weight.Code m s n
+        module _ (k : Code) (e : w ≡ Ok k) where
+          code : weighed (lengths_of g lengths p) p ≡ Ok k
           code = sym is ∙ e
 
-          need_is : n ≡ plane_need g lengths p
-          need_is = code_need (lengths_of g lengths p) p m s n code
+          need_is : k.need ≡ plane_need g lengths p
+          need_is = code_need (lengths_of g lengths p) p k code
 
-          pub before_small : n ≤ 266240
-          before_small = omega (arith, need_is, (code_passes (lengths_of g lengths p) p m s n code).bounded)
+          pub before_small : k.need ≤ 266240
+          before_small = omega (arith, need_is, (code_passes (lengths_of g lengths p) p k code).bounded)
 
-          pub before_next : (c' : Codes) → c' ≡ with_code c p m s n → CodesBefore g lengths c' planes (p + 1)
+          pub before_next : (c' : Codes) → c' ≡ with_code c p k.longest k.shortest k.need → CodesBefore g lengths c' planes (p + 1)
           unfolding table_start base.sum_below
           before_next c' ec = record {
-            codes = rw (add-one p) (ec ∙ ap (λ (x : Codes). with_code x p m s n) b.codes
-                ∙ codes_more g lengths p m s n before_four (code_longest (lengths_of g lengths p) p m s n code)
-                (code_shortest (lengths_of g lengths p) p m s n code) need_is);
+            codes = rw (add-one p) (ec ∙ ap (λ (x : Codes). with_code x p k.longest k.shortest k.need) b.codes
+                ∙ codes_more g lengths p k.longest k.shortest k.need before_four (code_longest (lengths_of g lengths p) p k code)
+                (code_shortest (lengths_of g lengths p) p k code) need_is);
             passed = one_passed (length_check g lengths) p b.passed (ap weighed_answer (sym code) ∙ weighed_check g lengths p);
             bounded = rw (add-one p) (omega (arith, b.bounded, before_small, need_is, suc-mul p 266240));
             planes_are = b.planes_are;

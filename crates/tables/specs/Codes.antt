@@ -5,8 +5,8 @@ use Rattle.scope.specs.Base.{list_below}
 use Rattle.scope.specs.Geometry.{plane_count, lengths_of}
 use Rattle.scope.specs.Words.{longest, shortest}
 use Rattle.scope.specs.declared.Geometry.{Geometry}
-use Rattle.scope.specs.declared.Answer.{Answer}
-use Rattle.scope.specs.declared.Answer.TheVariants.{Done, Refused}
+use Rattle.scope.specs.Answers.{Answer, done}
+use Rattle.std.specs.Prelude.{Ok, Err}
 use Rattle.scope.specs.Pieces.{in_order, length_check}
 use Rattle.tables.specs.Tables.{table_start}
 use Rattle.tables.specs.declared.Codes.{Codes}
@@ -45,7 +45,7 @@ module _ (g : Geometry) (lengths : List ℕ) where
   -- the codes of the first n planes, none of which is refused
   unfoldable pub codes_up_to : ℕ → Codes
   codes_up_to n = record {
-    answer = Done;
+    answer = done;
     from = per_plane n (table_start g lengths);
     to = per_plane n (λ p. table_start g lengths (suc p));
     longest = per_plane n (λ p. longest (lengths_of g lengths p));
@@ -55,8 +55,8 @@ module _ (g : Geometry) (lengths : List ℕ) where
 
   -- them all, by what 9 and 10 say
   unfoldable pub codes_by : Answer → Codes
-  codes_by Done = codes_up_to (plane_count g)
-  codes_by (Refused n p) = no_codes (Refused n p)
+  codes_by (Ok _) = codes_up_to (plane_count g)
+  codes_by (Err why) = no_codes (Err why)
 
   unfoldable pub codes_of : Codes
   codes_of = codes_by (in_order (plane_count g) (length_check g lengths))

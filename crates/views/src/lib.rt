@@ -11,3 +11,11 @@ pub struct Stretch {
     pub pitch: usize,
     pub rows: usize,
 }
+
+// Rows of a buffer from its first element on: how wide they are, how far one starts behind the one before, and how many they are.
+#[derive(Clone, Copy)]
+pub struct Rows {
+    pub width: usize,
+    pub pitch: usize,
+    pub count: usize,
+}

@@ -45,13 +45,6 @@ pub record Up (xs : List ℕ) (l : ℕ) : Type 0 where
   pub same : lowest xs l (19 - l) ≡ lowest xs 1 18
 
 module _ (xs : List ℕ) where
-  -- before the first turn
-  pub down_start : Down xs 18
-  down_start = record { within = omega arith; same = refl }
-
-  pub up_start : Up xs 1
-  up_start = record { within = omega arith; same = refl }
-
   module _ (l : ℕ) (d : Down xs l) where
     -- a length that some symbol has
     pub down_found : 0 < get_or xs l 0 → l ≡ highest xs 19

@@ -1,6 +1,6 @@
 -- The one pass over the lengths (document 01, "Words and lookup"): how many symbols have each length, and whether some length is
 -- above 18. Assumes nothing.
-use Rattle.std.proofs.Common.{◌≡◌, ℕ, ◌+◌, ◌<◌, ◌≤◌, true, false, eqb, List, length, get_or, take, set, replicate, sym, refl, ap, ◌∙◌, add-one, arith, length-set, length-take-le, take_all, get_or-set_other, get_or-set_same, w32, Fits, le-ltb, lt-ltb}
+use Rattle.std.proofs.Common.{◌≡◌, ℕ, ◌+◌, ◌<◌, ◌≤◌, cond, Some, None, eqb, List, length, get_or, take, set, replicate, sym, refl, ap, ◌∙◌, add-one, arith, length-set, length-take-le, take_all, get_or-set_other, get_or-set_same, w32, Fits, le-ltb, lt-ltb}
 use native.Mathlib.Decide.{ℕ_discrete}
 use lib.ListN.{get_or-replicate}
 use Rattle.scope.specs.Base.{one, count}
@@ -51,23 +51,17 @@ module _ (ls counts : List ℕ) (i : ℕ) (h : i < length ls) (b : get_or ls i 0
   }
 
 -- a length above 18
-pub counted_long : (ls : List ℕ) (i : ℕ) → 18 < get_or ls i 0 → true ≡ too_long ls
+pub counted_long : (ls : List ℕ) (i : ℕ) → 18 < get_or ls i 0 → None ≡ cond (too_long ls) None (Some (counts_of ls))
 unfolding too_long
-counted_long ls i h = sym (lt-ltb 18 (longest ls) (omega (arith, at_most_longest ls i)))
+counted_long ls i h = rw (lt-ltb 18 (longest ls) (omega (arith, at_most_longest ls i))) refl
 
--- after the last symbol
-module _ (ls counts : List ℕ) (i : ℕ) (h : length ls ≤ i) (k : Counted ls counts i) where
-  -- no length is above 18
-  pub counted_short : false ≡ too_long ls
-  unfolding too_long
-  counted_short = sym (le-ltb 18 (longest ls) (omega (arith, k.small, ap longest (take_all i ls h))))
-
-  -- and the counts are those of the list
-  pub counted_end : counts ≡ counts_of ls
-  unfolding counts_of
-  counted_end =
-      list_below_only (λ l. count l ls) 19 counts k.many
-      (λ l b. k.counted l (omega arith) ∙ ap (count l) (take_all i ls h))
+-- after the last symbol no length is above 18, and the counts are those of the list
+pub counted_end : (ls counts : List ℕ) (i : ℕ) → length ls ≤ i → Counted ls counts i
+    → Some counts ≡ cond (too_long ls) None (Some (counts_of ls))
+unfolding too_long counts_of
+counted_end ls counts i h k =
+    rw (le-ltb 18 (longest ls) (omega (arith, k.small, ap longest (take_all i ls h))))
+    (ap Some (list_below_only (λ l. count l ls) 19 counts k.many (λ l b. k.counted l (omega arith) ∙ ap (count l) (take_all i ls h))))
 
 -- element l is how many symbols have length l
 pub counts_at : (ls : List ℕ) (l : ℕ) → l ≤ 18 → get_or (counts_of ls) l 0 ≡ count l ls

@@ -1,6 +1,6 @@
 -- The walk from the longest length down to 1, with the running end that starts at all ones and wraps (document 01, "Words and
 -- lookup": "keep that"), against the counting definition of `codes`. Assumes nothing.
-use Rattle.std.proofs.Common.{◌≡◌, ℕ, zero, suc, ◌+◌, ◌-◌, ◌*◌, ◌/◌, ◌%◌, ◌^◌, ◌<◌, ◌≤◌, true, false, not, List, ◌∷◌, length, get_or, set, replicate, sym, refl, ap, ◌∙◌, true≢false, arith, length-set, get_or-set_other, get_or-set_same, ext_get_or}
+use Rattle.std.proofs.Common.{◌≡◌, ℕ, zero, suc, ◌+◌, ◌-◌, ◌*◌, ◌/◌, ◌%◌, ◌^◌, ◌<◌, ◌≤◌, true, false, Some, None, List, ◌∷◌, length, get_or, set, replicate, sym, refl, ap, ◌∙◌, arith, length-set, get_or-set_other, get_or-set_same, ext_get_or}
 use native.Mathlib.Nat.{sub_self}
 use native.Mathlib.Decide.{ℕ_discrete, dec_le}
 use lib.Arith.{sub-sub_self}
@@ -134,10 +134,9 @@ module _ (counts : List ℕ) (m : ℕ) (at : List ℕ) (a l : ℕ) (small : m �
     power = shl_one 32 l (omega (arith, w.within))
 
     -- no room is left
-    pub walks_refused : (at' : List ℕ) → 1 * 2 ^ l % 2 ^ 32 ≤ s → Begun counts m false at'
-    walks_refused at' b = record {
-      room = λ ls t. sym (ap not (walk_refused ls counts at m a l s t z (w.walked ls t) es (omega (arith, power))));
-      starts = λ ls t e. absurd (true≢false (sym e));
+    pub walks_refused : 1 * 2 ^ l % 2 ^ 32 ≤ s → Begun counts m None
+    walks_refused b = record {
+      starts = λ ls t. rw (walk_refused ls counts at m a l s t z (w.walked ls t) es (omega (arith, power))) refl;
     }
 
     -- one length is passed
@@ -148,12 +147,12 @@ module _ (counts : List ℕ) (m : ℕ) (at : List ℕ) (a l : ℕ) (small : m �
     }
 
   -- every length has room
-  pub walks_end : l ≤ 0 → Begun counts m true at
+  pub walks_end : l ≤ 0 → Begun counts m (Some at)
   walks_end h =
       let e : l ≡ 0 = omega arith in
       record {
-        room = λ ls t. sym (ap not (walk_fits ls counts at m a l t (w.walked ls t) e));
-        starts = λ ls t _. walk_firsts ls counts at m a l t (w.walked ls t) e;
+        starts = λ ls t.
+            rw (walk_fits ls counts at m a l t (w.walked ls t) e) (ap Some (walk_firsts ls counts at m a l t (w.walked ls t) e));
       }
 
 -- ---- what is there

@@ -10,7 +10,7 @@ use lib.ListN.{length}
 use lib.Dec.{eqb, ltb}
 use borrow.Author.Tests.{ltb-true, ltb-false, eqb-true, not-false}
 use Rattle.scope.specs.Base.{Bytes, Lengths, Samples, Words, rebuilt, zeros}
-use Rattle.scope.specs.Refusals.{number_of, refuse_if, left_by_frame}
+use Rattle.scope.specs.Refusals.{number_of, kind_number, place_number, refuse_if, left_by_frame}
 use Rattle.scope.specs.Geometry.{correlated, plane_count, slice_count}
 use Rattle.scope.specs.Layout.{plane_index}
 use Rattle.scope.specs.Words.{length_of, shares, word_of, begins_with, word_below, word_at}
@@ -18,15 +18,14 @@ use Rattle.scope.specs.Prediction.{median, predictor, prediction, sample, sample
 use Rattle.scope.specs.Frame.{residues_of, slice_samples, plane_up_to, wire_plane, buffer_plane, planes_up_to, picture_of, table, answer_of, planes_after, workspace_after}
 use Rattle.scope.specs.Alone.{read_answer, samples_read, workspace_read}
 use Rattle.scope.specs.declared.Geometry.{Geometry}
-use Rattle.scope.specs.declared.Found.{Found}
-use Rattle.scope.specs.declared.Found.TheVariants.{Word}
+use Rattle.scope.specs.Found.{Found, some_word}
 use Rattle.scope.specs.declared.Place.{Place}
 use Rattle.scope.specs.declared.Place.TheVariants.{Slice, Plane, Nothing}
-use Rattle.scope.specs.declared.Answer.{Answer}
-use Rattle.scope.specs.declared.Answer.TheVariants.{Done, Refused}
+use Rattle.scope.specs.Answers.{Answer}
+use Rattle.std.specs.Prelude.{Ok, Err}
 use Rattle.wrong.specs.Calls.{Lent, right, right_reader}
 use Rattle.wrong.specs.Rules.{the_rules, residues_by, samples_by, plane_by, wire_by, buffer_by, picture_by, answer_by, decodes_by, reads_by, predictor_by, by_median, by_words_below, by_words, by_rows_up}
-use Rattle.wrong.specs.Behaviours.{kind_of, which_of, elsewhere, Asks, asker, AsksAlone, asker_alone, code_of0}
+use Rattle.wrong.specs.Behaviours.{kind_of, which_of, place_elsewhere, elsewhere, Asks, asker, AsksAlone, asker_alone, code_of0}
 use Rattle.wrong.specs.Wrong.{SomeBehaveSo, RightAllowed}
 use Rattle.wrong.proofs.Shown.{right_entry, right_exported, right_table, right_table_exported, right_reading, right_reading_exported}
 
@@ -66,7 +65,7 @@ unchanged_reading ls payload workspace samples = refl
 same_word : (ls : Lengths) (payload : Bytes) (at n : ℕ) → by_words_below word_of ls payload at n ≡ word_below ls payload at n
 unfolding by_words_below word_below begins_with
 same_word ls payload at zero = refl
-same_word ls payload at (suc s) = ap (λ (x : Found). cond (begins_with ls payload at s) (Word (length_of ls s) s) x) (same_word ls payload at s)
+same_word ls payload at (suc s) = ap (λ (x : Found). cond (begins_with ls payload at s) (some_word (length_of ls s) s) x) (same_word ls payload at s)
 
 unchanged_words : (ls : Lengths) (payload : Bytes) (at : ℕ) → by_words word_of ls payload at ≡ word_at ls payload at
 unfolding by_words word_at
@@ -108,17 +107,23 @@ right_allowed =
 -- ---- the behaviours
 
 -- an answer whose slice, or plane, was exchanged names the other one
+place_slice : (s p : ℕ) (place : Place) → kind_number (place_elsewhere s p place) ≡ 1 → place_number (place_elsewhere s p place) ≡ s
+place_slice s p Nothing e = absurd (omega (arith, e))
+place_slice s p (Slice k) e = refl
+place_slice s p (Plane k) e = absurd (omega (arith, e))
+
 slice_moved : (s p : ℕ) (a : Answer) → kind_of (elsewhere s p a) ≡ 1 → which_of (elsewhere s p a) ≡ s
-slice_moved s p Done e = absurd (omega (arith, e))
-slice_moved s p (Refused n Nothing) e = absurd (omega (arith, e))
-slice_moved s p (Refused n (Slice k)) e = refl
-slice_moved s p (Refused n (Plane k)) e = absurd (omega (arith, e))
+slice_moved s p (Ok _) e = absurd (omega (arith, e))
+slice_moved s p (Err why) e = place_slice s p why.1 e
+
+place_plane : (s p : ℕ) (place : Place) → kind_number (place_elsewhere s p place) ≡ 2 → place_number (place_elsewhere s p place) ≡ p
+place_plane s p Nothing e = absurd (omega (arith, e))
+place_plane s p (Slice k) e = absurd (omega (arith, e))
+place_plane s p (Plane k) e = refl
 
 plane_moved : (s p : ℕ) (a : Answer) → kind_of (elsewhere s p a) ≡ 2 → which_of (elsewhere s p a) ≡ p
-plane_moved s p Done e = absurd (omega (arith, e))
-plane_moved s p (Refused n Nothing) e = absurd (omega (arith, e))
-plane_moved s p (Refused n (Slice k)) e = absurd (omega (arith, e))
-plane_moved s p (Refused n (Plane k)) e = refl
+plane_moved s p (Ok _) e = absurd (omega (arith, e))
+plane_moved s p (Err why) e = place_plane s p why.1 e
 
 -- a test that decides between a refusal and planes
 passed : (t : Bool) (n : ℕ) (p : Place) → 0 < n → number_of (refuse_if t n p) ≡ 0 → t ≡ false

@@ -13,7 +13,7 @@ use Rattle.scope.specs.declared.Family.{Family}
 use Rattle.scope.specs.declared.Family.TheVariants.{Gray, Rgb, Yuv, Rgba, Yuva}
 use Rattle.scope.specs.declared.Geometry.{Geometry}
 use Rattle.scope.specs.declared.Place.TheVariants.{Nothing}
-use Rattle.scope.specs.declared.Answer.{Answer}
+use Rattle.scope.specs.Answers.{Answer}
 use Rattle.magicyuv.specs.Boundary.{family_of, numbers_fit, geometry_of, host_answer}
 use Rattle.wrong.specs.Calls.{Lent, can_be_lent, Outcome, Decoder, right, Meets, family_number, numbers_of, MeetsHosted, Out, Builder, right_builder, lent_to_build, Builds, BuildsHosted, OutBuilder, Reading, Reader, right_reader, lent_to_read, Reads, ReadsHosted, OutReader}
 use Rattle.wrong.specs.Behaviours.{kind_of, which_of}

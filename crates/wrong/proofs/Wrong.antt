@@ -16,8 +16,7 @@ use Rattle.scope.specs.Frame.{need_of_all, fewest_bytes, residues_of, slice_samp
 use Rattle.scope.specs.Alone.{build_answer, read_answer, samples_read}
 use Rattle.scope.specs.declared.Geometry.{Geometry}
 use Rattle.scope.specs.declared.Place.TheVariants.{Slice, Plane, Nothing}
-use Rattle.scope.specs.declared.Answer.{Answer}
-use Rattle.scope.specs.declared.Answer.TheVariants.{Done, Refused}
+use Rattle.scope.specs.Answers.{Answer, done, refused}
 use Rattle.wrong.specs.Calls.{Lent, all_below, can_be_lent, Decoder, Out, Builder, lent_to_build, OutBuilder, lent_to_read, OutReader}
 use Rattle.wrong.specs.Rules.{residues_by, samples_by, plane_by, wire_by, buffer_by, picture_by, answer_by, decodes_by, reads_by, slice0, copies_slice0, predictor_by, by_median, t87_always, clamp_always, first_up, word_up, by_words_below, by_words, shortest_first, filled, filled_at, unfilled_is0, by_rows_up, adds_row_above, ignores_fields, b_first, plane_major, assumes_plane_major}
 use Rattle.wrong.specs.Behaviours.{RefusesAlways, FixedPicture, WritesNothing, LeavesWorkspace, LeavesRefused, ZeroFills, MakesUpSlice, MakesUpPlane, MakesUpNeed, AsksOther, MakesUpNeedAlone, AsksOtherAlone, CompleteOnly, code_of0, CompleteOnlyFrames}
@@ -51,11 +50,11 @@ other_planes D d e differ = out D (λ shown. differ (sym e ∙ (shown.at d).plan
 abbrev dot_of : (byte : ℕ) → Lent
 dot_of byte = dot 1 byte [] 1
 
-seven : Due (dot_of 7) Done (7 ∷ []) (0 ∷ [])
+seven : Due (dot_of 7) done (7 ∷ []) (0 ∷ [])
 unfolding open01
 seven = record { lent = tt; answer = refl; planes = refl; workspace = refl }
 
-eight : Due (dot_of 8) Done (8 ∷ []) (0 ∷ [])
+eight : Due (dot_of 8) done (8 ∷ []) (0 ∷ [])
 unfolding open01
 eight = record { lent = tt; answer = refl; planes = refl; workspace = refl }
 
@@ -102,11 +101,11 @@ zero_fills D does =
 -- ---- decoders that make something up
 
 -- predictor byte 0 in slice 0, and in slice 1
-at_slice_0 : Due (pair 0 1) (Refused 15 (Slice 0)) (0 ∷ 0 ∷ []) (replicate 4 0)
+at_slice_0 : Due (pair 0 1) (refused 15 (Slice 0)) (0 ∷ 0 ∷ []) (replicate 4 0)
 unfolding open01
 at_slice_0 = record { lent = tt; answer = refl; planes = refl; workspace = refl }
 
-at_slice_1 : Due (pair 1 0) (Refused 15 (Slice 1)) (0 ∷ 0 ∷ []) (replicate 4 0)
+at_slice_1 : Due (pair 1 0) (refused 15 (Slice 1)) (0 ∷ 0 ∷ []) (replicate 4 0)
 unfolding open01
 at_slice_1 = record { lent = tt; answer = refl; planes = refl; workspace = refl }
 
@@ -129,11 +128,11 @@ makes_up_slice slice D does =
     omega (arith, a, b))
 
 -- a length of 19 in plane 0, and in plane 1
-at_plane_0 : Due (colours (19 ∷ []) []) (Refused 9 (Plane 0)) (replicate 3 0) (replicate 4 0)
+at_plane_0 : Due (colours (19 ∷ []) []) (refused 9 (Plane 0)) (replicate 3 0) (replicate 4 0)
 unfolding open01
 at_plane_0 = record { lent = tt; answer = refl; planes = refl; workspace = refl }
 
-at_plane_1 : Due (colours [] (19 ∷ [])) (Refused 9 (Plane 1)) (replicate 3 0) (replicate 4 0)
+at_plane_1 : Due (colours [] (19 ∷ [])) (refused 9 (Plane 1)) (replicate 3 0) (replicate 4 0)
 unfolding open01
 at_plane_1 = record { lent = tt; answer = refl; planes = refl; workspace = refl }
 
@@ -147,7 +146,7 @@ makes_up_plane plane D does =
     omega (arith, a, b))
 
 -- one workspace word, which is enough where no symbol has a word (`seven`), is too little for two words of one bit
-one_is_short : Due (dot 1 7 (1 ∷ 1 ∷ []) 1) (Refused 11 Nothing) (0 ∷ []) (0 ∷ [])
+one_is_short : Due (dot 1 7 (1 ∷ 1 ∷ []) 1) (refused 11 Nothing) (0 ∷ []) (0 ∷ [])
 unfolding open01
 one_is_short = record { lent = tt; answer = refl; planes = refl; workspace = refl }
 
@@ -161,7 +160,7 @@ makes_up_need asked D does =
     omega (arith, a, b))
 
 -- and no workspace word is always too little
-none_is_short : Due (dot 1 7 [] 0) (Refused 11 Nothing) (0 ∷ []) []
+none_is_short : Due (dot 1 7 [] 0) (refused 11 Nothing) (0 ∷ []) []
 unfolding open01
 none_is_short = record { lent = tt; answer = refl; planes = refl; workspace = refl }
 
@@ -228,7 +227,7 @@ complete_only B does =
 abbrev half_dot : Lent
 half_dot = dot 0 0 (1 ∷ []) 2
 
-half_decodes : Due half_dot Done (0 ∷ []) (0 ∷ 0 ∷ [])
+half_decodes : Due half_dot done (0 ∷ []) (0 ∷ 0 ∷ [])
 unfolding open01
 half_decodes = record { lent = tt; answer = refl; planes = refl; workspace = refl }
 
@@ -244,7 +243,7 @@ complete_only_frames D does =
 
 -- ---- decoders that are right but for one rule: what is due, and what each gives
 
-pair_due : Due (pair 1 1) Done (7 ∷ 8 ∷ []) (replicate 4 0)
+pair_due : Due (pair 1 1) done (7 ∷ 8 ∷ []) (replicate 4 0)
 unfolding open01
 pair_due = record { lent = tt; answer = refl; planes = refl; workspace = refl }
 
@@ -255,7 +254,7 @@ slice_0_twice = refl
 copies_slice_0 : Out (decodes_by copies_slice0)
 copies_slice_0 = other_planes (decodes_by copies_slice0) pair_due slice_0_twice (λ e. let z : ◌≡◌ {A = ℕ} 7 8 = cc in omega (arith, z))
 
-square_due : Due square Done (10 ∷ 100 ∷ 200 ∷ 100 ∷ []) (replicate 4 0)
+square_due : Due square done (10 ∷ 100 ∷ 200 ∷ 100 ∷ []) (replicate 4 0)
 unfolding open01
 square_due = record { lent = tt; answer = refl; planes = refl; workspace = refl }
 
@@ -266,7 +265,7 @@ square_t87 = refl
 t87_at_8 : Out (decodes_by t87_always)
 t87_at_8 = other_planes (decodes_by t87_always) square_due square_t87 (λ e. let z : ◌≡◌ {A = ℕ} 200 100 = cc in omega (arith, z))
 
-deep_due : Due deep_square Done (10 ∷ 900 ∷ 1000 ∷ 1000 ∷ []) (replicate 4 0)
+deep_due : Due deep_square done (10 ∷ 900 ∷ 1000 ∷ 1000 ∷ []) (replicate 4 0)
 unfolding open01
 deep_due = record { lent = tt; answer = refl; planes = refl; workspace = refl }
 
@@ -278,7 +277,7 @@ clamp_at_10 : Out (decodes_by clamp_always)
 clamp_at_10 = other_planes (decodes_by clamp_always) deep_due deep_clamp (λ e. let z : ◌≡◌ {A = ℕ} 900 1000 = cc in omega (arith, z))
 
 -- Under lengths 1,2,2 the bits 10 begin with the word 1, which is symbol 0's. Shortest first 10 is symbol 1's.
-coded_due : Due (dot 0 0b1000_0000 (1 ∷ 2 ∷ 2 ∷ []) 4) Done (0 ∷ []) (replicate 4 0)
+coded_due : Due (dot 0 0b1000_0000 (1 ∷ 2 ∷ 2 ∷ []) 4) done (0 ∷ []) (replicate 4 0)
 unfolding open01
 coded_due = record { lent = tt; answer = refl; planes = refl; workspace = refl }
 
@@ -305,7 +304,7 @@ shortest_first_alone =
     omega (arith, z))
 
 -- slices of G, R' and B': in the buffer G 10, B 5 + 10, R 250 + 10 modulo 256
-colours_due : Due (colours [] []) Done (10 ∷ 15 ∷ 4 ∷ []) (replicate 4 0)
+colours_due : Due (colours [] []) done (10 ∷ 15 ∷ 4 ∷ []) (replicate 4 0)
 unfolding open01
 colours_due = record { lent = tt; answer = refl; planes = refl; workspace = refl }
 
@@ -324,7 +323,7 @@ b_first_out : Out (decodes_by b_first)
 b_first_out = other_planes (decodes_by b_first) colours_due colours_b_first (λ e. let z : ◌≡◌ {A = ℕ} 15 10 = cc in omega (arith, z))
 
 -- rows 0 and 1 are of different fields, and row 2 adds row 0
-column_due : Due column Done (1 ∷ 2 ∷ 4 ∷ []) (replicate 4 0)
+column_due : Due column done (1 ∷ 2 ∷ 4 ∷ []) (replicate 4 0)
 unfolding open01
 column_due = record { lent = tt; answer = refl; planes = refl; workspace = refl }
 
@@ -343,11 +342,11 @@ fields_ignored : Out (decodes_by ignores_fields)
 fields_ignored = other_planes (decodes_by ignores_fields) column_due column_ignored (λ e. let z : ◌≡◌ {A = ℕ} 3 2 = cc in omega (arith, z))
 
 -- under lengths 2,2,2 the bits 11 begin with no word
-unfilled_due : Due (dot 0 0b1100_0000 (2 ∷ 2 ∷ 2 ∷ []) 4) (Refused 14 (Plane 0)) (0 ∷ []) (replicate 4 0)
+unfilled_due : Due (dot 0 0b1100_0000 (2 ∷ 2 ∷ 2 ∷ []) 4) (refused 14 (Plane 0)) (0 ∷ []) (replicate 4 0)
 unfolding open01
 unfilled_due = record { lent = tt; answer = refl; planes = refl; workspace = refl }
 
-unfilled_taken : (decodes_by unfilled_is0 (dot 0 0b1100_0000 (2 ∷ 2 ∷ 2 ∷ []) 4)).answer ≡ Done
+unfilled_taken : (decodes_by unfilled_is0 (dot 0 0b1100_0000 (2 ∷ 2 ∷ 2 ∷ []) 4)).answer ≡ done
 unfolding open01
 unfilled_taken = refl
 
@@ -361,7 +360,7 @@ unfilled_read_due : DueReading (2 ∷ 2 ∷ 2 ∷ []) (0b1100_0000 ∷ []) (repl
 unfolding open01
 unfilled_read_due = record { lent = tt; number = refl; samples = refl }
 
-unfilled_read_taken : (reads_by filled_at (2 ∷ 2 ∷ 2 ∷ []) (0b1100_0000 ∷ []) (replicate 4 9) (9 ∷ [])).answer ≡ Done
+unfilled_read_taken : (reads_by filled_at (2 ∷ 2 ∷ 2 ∷ []) (0b1100_0000 ∷ []) (replicate 4 9) (9 ∷ [])).answer ≡ done
 unfolding open01
 unfilled_read_taken = refl
 

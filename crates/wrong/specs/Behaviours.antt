@@ -1,16 +1,16 @@
 -- The wrong decoders of document 01, "What every public statement settles", each as what it does, whatever else it does: so a theorem about one
 -- is about every decoder that does it. What is made up may even go by the geometry, so long as it does not come from where it should. Below each
 -- stands the plainest decoder that does it. Assumes nothing.
-use Rattle.std.specs.Prelude.{◌≡◌, ℕ, ◌+◌, ◌<◌, ◌≤◌, not, length, eqb, ltb}
+use Rattle.std.specs.Prelude.{◌≡◌, ℕ, ◌+◌, ◌<◌, ◌≤◌, not, length, eqb, ltb, Ok, Err}
 use Rattle.scope.specs.Base.{Lengths, Samples, zeros}
 use Rattle.scope.specs.Refusals.{number_of, place_of, kind_number, place_number, refuse_if, left_by_frame}
 use Rattle.scope.specs.Geometry.{lengths_of}
 use Rattle.scope.specs.Words.{shares, need}
 use Rattle.scope.specs.Frame.{need_of_all, picture_of}
 use Rattle.scope.specs.declared.Geometry.{Geometry}
+use Rattle.scope.specs.declared.Place.{Place}
 use Rattle.scope.specs.declared.Place.TheVariants.{Slice, Plane, Nothing}
-use Rattle.scope.specs.declared.Answer.{Answer}
-use Rattle.scope.specs.declared.Answer.TheVariants.{Done, Refused}
+use Rattle.scope.specs.Answers.{Answer, done, refused}
 use Rattle.wrong.specs.Calls.{Lent, WhateverIsLent, Decoder, right, Builder, right_builder, WhateverIsLentToBuild}
 
 -- a decoder gives planes for what is lent
@@ -30,7 +30,7 @@ abbrev pub RefusesAlways : (D : Decoder) → Type 0
 RefusesAlways D = WhateverIsLent (λ l. 0 < number_of (D l).answer)
 
 abbrev pub refuser : Decoder
-refuser l = record { answer = Refused 5 Nothing; planes = zeros l.planes; workspace = zeros l.workspace }
+refuser l = record { answer = refused 5 Nothing; planes = zeros l.planes; workspace = zeros l.workspace }
 
 -- ---- "or gives one fixed picture"
 
@@ -39,7 +39,7 @@ abbrev pub FixedPicture : (picture : Geometry → Samples) (D : Decoder) → Typ
 FixedPicture picture D = WhateverIsLent (λ l. Accepts D l → (D l).planes ≡ picture l.geometry)
 
 abbrev pub painter : (picture : Geometry → Samples) → Decoder
-painter picture l = record { answer = Done; planes = picture l.geometry; workspace = zeros l.workspace }
+painter picture l = record { answer = done; planes = picture l.geometry; workspace = zeros l.workspace }
 
 -- ---- "one that writes nothing and trusts old memory"
 
@@ -73,11 +73,14 @@ abbrev pub MakesUpPlane : (plane : Geometry → ℕ) (D : Decoder) → Type 0
 MakesUpPlane plane D = WhateverIsLent (λ l. kind_of (D l).answer ≡ 2 → which_of (D l).answer ≡ plane l.geometry)
 
 -- slice s, or plane p, in place of the one that an answer names
+abbrev pub place_elsewhere : (s p : ℕ) (place : Place) → Place
+place_elsewhere s p Nothing = Nothing
+place_elsewhere s p (Slice k) = Slice s
+place_elsewhere s p (Plane k) = Plane p
+
 abbrev pub elsewhere : (s p : ℕ) (answer : Answer) → Answer
-elsewhere s p Done = Done
-elsewhere s p (Refused n Nothing) = Refused n Nothing
-elsewhere s p (Refused n (Slice k)) = Refused n (Slice s)
-elsewhere s p (Refused n (Plane k)) = Refused n (Plane p)
+elsewhere s p (Ok _) = done
+elsewhere s p (Err why) = refused why.0 (place_elsewhere s p why.1)
 
 abbrev pub guesser : (slice plane : Geometry → ℕ) → Decoder
 guesser slice plane l =

@@ -10,8 +10,9 @@ use Rattle.scope.specs.declared.Entry.TheVariants.{Eight, Deep}
 use Rattle.scope.specs.declared.Family.{Family}
 use Rattle.scope.specs.declared.Family.TheVariants.{Gray, Rgb, Yuv, Rgba, Yuva}
 use Rattle.scope.specs.declared.Geometry.{Geometry}
-use Rattle.scope.specs.declared.Answer.{Answer}
-use Rattle.magicyuv.specs.Boundary.{Numbers, numbers, Hosted, BuiltFor, ReadFor, reply_to}
+use Rattle.scope.specs.Answers.{Answer}
+use Rattle.magicyuv.specs.declared.numbers.Numbers.{Numbers}
+use Rattle.magicyuv.specs.Boundary.{numbers, Hosted, BuiltFor, ReadFor, reply_to}
 
 -- ---- a frame
 

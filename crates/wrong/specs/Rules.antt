@@ -1,7 +1,7 @@
 -- Decoders that are right but for one rule: scope's decoding with four of its rules left open, and for each slip of document 01, "Slips to
 -- shut out", the one rule that it changes. With none changed it is the decoder of document 01 (`right_allowed`, proofs/Right.antt), so nothing
 -- but the slip tells each apart. Assumes nothing.
-use Rattle.std.specs.Prelude.{ℕ, zero, suc, ◌+◌, ◌-◌, ◌*◌, ◌/◌, ◌%◌, ◌^◌, Bool, cond, not, ◌&&◌, List, [], ◌∷◌, ◌++◌, length, take, get_or, replicate, eqb, ltb, leb}
+use Rattle.std.specs.Prelude.{ℕ, zero, suc, ◌+◌, ◌-◌, ◌*◌, ◌/◌, ◌%◌, ◌^◌, Bool, cond, not, ◌&&◌, List, [], ◌∷◌, ◌++◌, length, take, get_or, replicate, eqb, ltb, leb, None, Some}
 use Rattle.scope.specs.Base.{Bytes, Lengths, Samples, count, list_below, rebuilt, zeros}
 use Rattle.scope.specs.Refusals.{Row, row, first_of, rows_of_each, left_by_frame, left_alone}
 use Rattle.scope.specs.Geometry.{correlated, plane_count, slices_per_plane, slice_count, plane_width, fields, swapped}
@@ -13,10 +13,9 @@ use Rattle.scope.specs.Frame.{slice_lengths, lent_rows, preamble_rows, index_row
 use Rattle.scope.specs.Alone.{build_rows}
 use Rattle.scope.specs.declared.Entry.{Entry}
 use Rattle.scope.specs.declared.Geometry.{Geometry}
-use Rattle.scope.specs.declared.Found.{Found}
-use Rattle.scope.specs.declared.Found.TheVariants.{Word, NoWord}
+use Rattle.scope.specs.Found.{Found, some_word}
 use Rattle.scope.specs.declared.Place.TheVariants.{Slice, Plane, Nothing}
-use Rattle.scope.specs.declared.Answer.{Answer}
+use Rattle.scope.specs.Answers.{Answer}
 use Rattle.wrong.specs.Calls.{Decoder, right, Reader}
 
 -- ---- the rules that are left open
@@ -151,9 +150,9 @@ word_up ls s = first_up ls (length_of ls s) + count (length_of ls s) (take s ls)
 
 -- the word at a position, by some words; by document 01's it is word_at's. Among the symbols below n, and among all.
 unfoldable pub by_words_below : (word : Lengths → ℕ → ℕ) (ls : Lengths) (payload : Bytes) (at n : ℕ) → Found
-by_words_below word ls payload at zero = NoWord
+by_words_below word ls payload at zero = None
 by_words_below word ls payload at (suc s) =
-    cond (ltb 0 (length_of ls s) && eqb (window payload at (length_of ls s)) (word ls s)) (Word (length_of ls s) s) (by_words_below word ls payload at s)
+    cond (ltb 0 (length_of ls s) && eqb (window payload at (length_of ls s)) (word ls s)) (some_word (length_of ls s) s) (by_words_below word ls payload at s)
 
 unfoldable pub by_words : (word : Lengths → ℕ → ℕ) (ls : Lengths) (payload : Bytes) (at : ℕ) → Found
 by_words word ls payload at = by_words_below word ls payload at (length ls)
@@ -165,8 +164,8 @@ shortest_first = rules (by_words word_up) samples_of itself swapped
 
 -- the slot has m bits, so it is taken for a word of as many
 unfoldable pub filled : (m : ℕ) (found : Found) → Found
-filled m NoWord = Word m 0
-filled m (Word l s) = Word l s
+filled m None = some_word m 0
+filled m (Some w) = some_word w.length w.symbol
 
 unfoldable pub filled_at : (ls : Lengths) (payload : Bytes) (at : ℕ) → Found
 filled_at ls payload at = filled (longest ls) (word_at ls payload at)

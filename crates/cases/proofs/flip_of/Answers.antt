@@ -1,12 +1,13 @@
 -- `cases::flip_of` meets its contract: by the number. Assumes nothing.
-use Rattle.cases.proofs.Placing.{numbered}
+use Rattle.std.proofs.Common.{arith}
+use Rattle.cases.proofs.Placing.{flip_planes, flip_found, flip_zero}
 use Rattle.cases.proofs.flip_of.Goals as goal
 
-pub returns-then-number-eq0 : goal.returns-then-number-eq0
-returns-then-number-eq0 c = search numbered
+pub returns-in-1-to-4 : goal.returns-in-1-to-4
+returns-in-1-to-4 c = flip_found c.args.number (λ e. omega arith) (omega arith)
 
-pub returns-then-number-lt5 : goal.returns-then-number-lt5
-returns-then-number-lt5 c = search numbered
+pub returns-in_default : goal.returns-in_default
+returns-in_default c = flip_planes c.args.number (omega arith)
 
-pub returns : goal.returns
-returns c = search numbered
+pub returns-in_default-2 : goal.returns-in_default-2
+returns-in_default-2 c = flip_zero c.args.number (λ e. omega arith) (omega arith)

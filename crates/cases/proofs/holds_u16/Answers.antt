@@ -5,8 +5,8 @@ use Rattle.cases.proofs.holds_u16.Goals as goal
 pub loop-i-init : goal.loop-i-init
 loop-i-init c = search agreeing
 
-pub returns-then-planes-i : goal.returns-then-planes-i
-returns-then-planes-i c = search agreeing
+pub returns-then-plane-two_bytes : goal.returns-then-plane-two_bytes
+returns-then-plane-two_bytes c = search agreeing
 
 pub loop-i-preserved : goal.loop-i-preserved
 loop-i-preserved c = search agreeing

@@ -8,9 +8,6 @@ returns-then-e-m c = search entering
 pub returns-then-m-le12 : goal.returns-then-m-le12
 returns-then-m-le12 c = search entering
 
-pub returns-then-e-lt255 : goal.returns-then-e-lt255
-returns-then-e-lt255 c = search entering
-
 pub overflow_add-w : goal.overflow_add-w
 overflow_add-w c = search entering
 

@@ -1,3 +1,4 @@
+-- What `magicyuv_read` replies names a place that fits.
 use Rattle.magicyuv.proofs.Hosting.{reading_small}
 use borrow.Author.Rules.{rules}
 use Rattle.magicyuv.proofs.magicyuv_read.Goals as goal

@@ -2,8 +2,8 @@
 use Rattle.raw.proofs.Unpacking.{eaching}
 use Rattle.raw.proofs.each.Goals as goal
 
-pub loop-i-init : goal.loop-i-init
-loop-i-init c = search eaching
+pub loop-o-init : goal.loop-o-init
+loop-o-init c = search eaching
 
-pub loop-i-preserved : goal.loop-i-preserved
-loop-i-preserved c = search eaching
+pub loop-o-preserved : goal.loop-o-preserved
+loop-o-preserved c = search eaching

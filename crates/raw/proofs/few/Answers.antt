@@ -2,8 +2,8 @@
 use Rattle.raw.proofs.Unpacking.{cuts}
 use Rattle.raw.proofs.few.Goals as goal
 
-pub loop-i-init : goal.loop-i-init
-loop-i-init c = search cuts
+pub loop-o-init : goal.loop-o-init
+loop-o-init c = search cuts
 
-pub loop-i-preserved : goal.loop-i-preserved
-loop-i-preserved c = search cuts
+pub loop-o-preserved : goal.loop-o-preserved
+loop-o-preserved c = search cuts

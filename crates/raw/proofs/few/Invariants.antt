@@ -1,11 +1,8 @@
-use Prim.Native.Nat.{◌-◌}
+-- The loop of `raw::few`: so many samples are cut out, and so many bits are behind (document 01, "Layout"). Assumes nothing.
 use lib.ListN.{length}
 use Rattle.raw.proofs.Unpacking.{Cutting}
 use Rattle.raw.proofs.few.Given as goal
 
-abbrev pub invariant-loop-i : goal.invariant-loop-i
-invariant-loop-i l =
-    Cutting l.payload l.at l.depth l.x (length l.initial.out) l.out l.end l.i
-
-abbrev pub decreases-loop-i : goal.decreases-loop-i
-decreases-loop-i l = length l.initial.out - l.i
+abbrev pub invariant-loop-o : goal.invariant-loop-o
+invariant-loop-o l =
+    Cutting l.payload l.at l.depth l.x (length l.fn.out) l.o-items l.end l.o-index

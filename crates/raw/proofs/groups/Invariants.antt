@@ -1,3 +1,4 @@
+-- The loop of `raw::groups`: so many samples are read, some at a time (document 01, "Layout"). Assumes nothing.
 use Prim.Native.Nat.{◌-◌}
 use lib.ListN.{length}
 use Rattle.raw.proofs.Unpacking.{Grouping}

@@ -5,8 +5,8 @@ use Rattle.reader.proofs.behind.Goals as goal
 pub overflow_add-result : goal.overflow_add-result
 overflow_add-result c = search stepping
 
-pub returns-in-NoWord : goal.returns-in-NoWord
-returns-in-NoWord c = search stepping
+pub returns-in-None : goal.returns-in-None
+returns-in-None c = search stepping
 
-pub returns-in-Word : goal.returns-in-Word
-returns-in-Word c = search stepping
+pub returns-in-Some : goal.returns-in-Some
+returns-in-Some c = search stepping

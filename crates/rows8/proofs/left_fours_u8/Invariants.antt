@@ -1,3 +1,5 @@
+-- The loop of `rows8::left_fours_u8`: what its turns still make, and the samples that it carries (document 01, "Prediction, slice by slice").
+-- Assumes nothing.
 use Rattle.std.proofs.Common.{◌≡◌, ◌+◌, ◌-◌, ◌%◌, ◌^◌, ◌<◌, ◌≤◌, length, get_or}
 use Rattle.memory.specs.Loop.{swept}
 use Rattle.rows.specs.Rows.{leftward}

@@ -2,8 +2,8 @@
 use Rattle.geometry.proofs.Figures.{sums}
 use Rattle.stretches.proofs.plane_start.Goals as goal
 
-pub samples_below-requires-clause-n_bound : goal.samples_below-requires-clause-n_bound
-samples_below-requires-clause-n_bound c = search sums
+pub samples_below-requires : goal.samples_below-requires
+samples_below-requires c = search sums
 
 pub returns : goal.returns
 returns c = (search sums, search sums)

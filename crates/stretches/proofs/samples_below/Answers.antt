@@ -4,7 +4,7 @@ use borrow.Author.Rules.{rules}
 use Rattle.stretches.proofs.samples_below.Goals as goal
 
 pub loop-b-init : goal.loop-b-init
-loop-b-init c = (search sums, search rules, search rules, search rules)
+loop-b-init c = (search sums, search rules)
 
 pub loop-b-preserved : goal.loop-b-preserved
-loop-b-preserved c = (search sums, search rules, search rules, search rules)
+loop-b-preserved c = (search sums, search rules)

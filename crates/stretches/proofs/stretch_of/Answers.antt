@@ -1,3 +1,5 @@
+-- `stretches::stretch_of` meets its contract: the rows of a plane in the buffer (document 01, "Planes lie one after another with no
+-- gaps"). Assumes nothing.
 use Rattle.stretches.proofs.Stretching.{stretch_fits, stretch_adds, stretch_most, stretch_is}
 use Rattle.stretches.proofs.stretch_of.Goals as goal
 

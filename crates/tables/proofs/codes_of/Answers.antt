@@ -5,8 +5,8 @@ use Rattle.tables.proofs.codes_of.Goals as goal
 pub loop-p-init : goal.loop-p-init
 loop-p-init c = search before_first
 
-pub returns-in-Refused : goal.returns-in-Refused
-returns-in-Refused c = search before_refused
+pub returns-in-Err : goal.returns-in-Err
+returns-in-Err c = search before_refused
 
 pub with_code-c-requires : goal.with_code-c-requires
 with_code-c-requires c = (search before_four, search before_need, search before_small)

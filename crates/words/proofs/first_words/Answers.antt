@@ -1,4 +1,5 @@
 -- `first_words` walks from the longest length down with the running end that wraps (document 01, "Words and lookup").
+use Rattle.std.proofs.Common.{arith}
 use Rattle.words.proofs.Walking.{walks_start, walks_refused, walks_step, walks_end}
 use Rattle.words.proofs.first_words.Goals as goal
 
@@ -12,4 +13,4 @@ pub loop-l-preserved : goal.loop-l-preserved
 loop-l-preserved c = search walks_step
 
 pub returns : goal.returns
-returns c = search walks_end
+returns c = walks_end _ _ _ _ _ c.requires c.loop-l.invariant (omega arith)

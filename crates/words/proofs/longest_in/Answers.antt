@@ -10,4 +10,4 @@ pub loop-l-preserved : goal.loop-l-preserved
 loop-l-preserved c = search down_step
 
 pub returns : goal.returns
-returns c = (search down_end, search rules)
+returns c = (search (down_end, rules), search rules)

@@ -1,21 +1,18 @@
 -- `tally` counts the lengths in one pass (document 01, "Words and lookup").
-use Rattle.words.proofs.Tallying.{counted_start, counted_fits, counted_step, counted_long, counted_short, counted_end}
+use Rattle.words.proofs.Tallying.{counted_start, counted_fits, counted_step, counted_long, counted_end}
 use Rattle.words.proofs.tally.Goals as goal
 
-pub loop-i-init : goal.loop-i-init
-loop-i-init c = search counted_start
+pub loop-length-init : goal.loop-length-init
+loop-length-init c = search counted_start
 
-pub returns-then-l-gt18-clause-long : goal.returns-then-l-gt18-clause-long
-returns-then-l-gt18-clause-long c = search counted_long
+pub returns-then-l-gt18 : goal.returns-then-l-gt18
+returns-then-l-gt18 c = search counted_long
 
 pub overflow_add-count : goal.overflow_add-count
 overflow_add-count c = search counted_fits
 
-pub loop-i-preserved : goal.loop-i-preserved
-loop-i-preserved c = search counted_step
+pub loop-length-preserved : goal.loop-length-preserved
+loop-length-preserved c = search counted_step
 
-pub returns-clause-long : goal.returns-clause-long
-returns-clause-long c = search counted_short
-
-pub returns-clause-counts : goal.returns-clause-counts
-returns-clause-counts c = search counted_end
+pub returns : goal.returns
+returns c = search counted_end

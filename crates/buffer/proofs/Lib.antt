@@ -1,0 +1,3 @@
+pub mod Samples
+pub mod Green
+pub mod Once

@@ -1,0 +1,3 @@
+pub mod Once
+pub mod Symbols
+pub mod Samples

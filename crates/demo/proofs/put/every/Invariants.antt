@@ -1,9 +1,0 @@
--- The loop goes over the words.
-use Rattle.std.proofs.Common.{◌-◌, ◌≤◌, length}
-use Rattle.demo.proofs.put.every.Given as goal
-
-abbrev pub invariant-loop-i : goal.invariant-loop-i
-invariant-loop-i l = l.i ≤ length l.words
-
-abbrev pub decreases-loop-i : goal.decreases-loop-i
-decreases-loop-i l = length l.words - l.i

@@ -1,0 +1,3 @@
+pub mod Values
+pub mod More
+pub mod Once

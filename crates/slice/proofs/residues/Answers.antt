@@ -1,0 +1,10 @@
+-- `slice::residues` meets its contract: a raw slice's samples or a coded one's words (document 01, "Layout" and "Words and lookup").
+-- Assumes nothing.
+use Rattle.slice.proofs.Payloads.{residues}
+use Rattle.slice.proofs.residues.Goals as goal
+
+pub returns-then-a-clause-residues : goal.returns-then-a-clause-residues
+returns-then-a-clause-residues g c = search residues
+
+pub returns-clause-residues : goal.returns-clause-residues
+returns-clause-residues g c = search residues

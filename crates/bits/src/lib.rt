@@ -4,7 +4,7 @@
 ghost use Rattle.std.specs.Prelude.{◌≡◌, ◌+◌, ◌*◌, ◌/◌, ◌<◌, ◌≤◌, ◌^◌, length, get_or};
 ghost use Rattle.scope.specs.Bits.{window};
 
-// The byte at i, and 0 past the end.
+// The byte at i, and 0 past the end. One call of the library, here and in layout, of which neither stands on the other.
 fn byte(payload: &[u8], i: usize) -> u8
     ensures { result ≡ get_or payload.now i 0 }
 {

@@ -74,7 +74,7 @@ pub(crate) fn write_table(lengths: &[u8], m: usize, ws: &mut [u32])
 }
 
 // The table of lengths that pass refusals 9 and 10, m being the longest, in the workspace words from `from` to `to`, which are as
-// many as it needs.
+// many as it needs. It takes the whole workspace and two places in it, since its promise is also of the words around them, which stay.
 pub fn build_part(lengths: &[u8], m: usize, workspace: &mut [u32], from: usize, to: usize)
     requires lengths_len_bound { (length lengths.now ≤ 16384) × (longest lengths.now ≤ 18) × (shares lengths.now ≤ 262144) }
     requires m_value { m ≡ longest lengths.now }

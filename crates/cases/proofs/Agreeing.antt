@@ -1,59 +1,29 @@
--- The loop that compares samples with what is due, up to the first that is another; and what its answer says. Assumes nothing.
-use mathlib.Core.Path.{◌≡◌, refl, sym, ◌∙◌}
+-- What it says that samples agree with what is due; and the comparisons of src/lib.rt, each of all at once. Assumes nothing.
+use mathlib.Core.Path.{◌≡◌, refl, sym, ap, ◌∙◌}
 use mathlib.Core.Bool.{Bool, true, false}
 use mathlib.Core.Logic.{inl, inr}
-use mathlib.Core.List.{List}
-use Prim.Native.Nat.{ℕ, zero, suc, ◌+◌, ◌*◌, ◌-◌, ◌≤◌, ◌<◌}
-use native.Mathlib.Nat.{add-zero, add-suc, not-suc-le-zero}
-use native.Mathlib.Numerals.{add-one}
+use mathlib.Core.List.{List, []}
+use Prim.Native.Nat.{ℕ, zero, suc, ◌+◌, ◌*◌, ◌/◌, ◌≤◌, ◌<◌}
+use native.Mathlib.Nat.{not-suc-le-zero}
 use native.Mathlib.Omega.{arith}
 use native.Mathlib.Decide.{dec_lt}
-use borrow.Author.Rules.{rules}
-use borrow.Author.Tests.{eq-eqb, ne_eqb, eqb-true}
+use borrow.Author.Tests.{eq-eqb, eqb-true}
 use lib.Dec.{eqb}
-use lib.ListN.{length, get_or}
+use lib.ListN.{length, get_or, drop}
 use Rattle.scope.specs.Base.{list_below}
 use Rattle.lists.proofs.Made.{list_below_only}
 use Rattle.lists.proofs.Tests.{and_both, which}
 use Rattle.std.specs.Bool.{MatchBool}
+use Rattle.std.specs.Int.{from_le_bytes}
+use Rattle.std.specs.Simd.{first_chunks}
+use Rattle.std.proofs.Common.{w16}
+use Rattle.std.proofs.lemmas.List.{get_or-drop, get_or-take}
 use Rattle.std.specs.List.{AllWithin, HoldsAt, zip}
 use Rattle.std.proofs.lemmas.Slice.Zip.{length-zip, get_or-zip}
 use Rattle.cases.specs.Held as spec
 use Rattle.cases.specs.Held.{held8, held16, agrees}
 
 module _ (due : ℕ → ℕ) (xs : List ℕ) where
-  -- once another, the answer stays
-  stays : (i k : ℕ) → agrees due xs (suc i) ≡ false → agrees due xs (suc i + k) ≡ false
-  unfolding spec.agrees
-  stays i zero h = rw add-zero h
-  stays i (suc k) h = rw (add-suc, stays i k h)
-
-  other : (i : ℕ) → agrees due xs i ≡ true → eqb (get_or xs i 0) (due i) ≡ false → agrees due xs (suc i) ≡ false
-  unfolding spec.agrees
-  other i h e = rw (h, e)
-
-  pub agree_start : true ≡ agrees due xs 0
-  unfolding spec.agrees
-  agree_start = refl
-
-  module _ (i d : ℕ) (e : d ≡ due i) where
-    pub agree_step : true ≡ agrees due xs i → get_or xs i 0 ≡ d → true ≡ agrees due xs (i + 1)
-    unfolding spec.agrees
-    agree_step h s = rw (add-one, ← h, eq-eqb (get_or xs i 0) (due i) (s ∙ e))
-
-    pub agree_stop : true ≡ agrees due xs i → i < length xs → (get_or xs i 0 ≡ d → ⊥) → false ≡ agrees due xs (length xs)
-    agree_stop h l n =
-        let q : length xs ≡ suc i + (length xs - suc i) = omega arith in
-        rw q (sym (stays i (length xs - suc i) here))
-      where
-        here : agrees due xs (suc i) ≡ false
-        here = other i (sym h) (ne_eqb (get_or xs i 0) (due i) (λ z. n (z ∙ sym e)))
-
-  pub agree_end : (i : ℕ) → true ≡ agrees due xs i → i ≤ length xs → length xs ≤ i → true ≡ agrees due xs (length xs)
-  agree_end i h l m =
-      let q : length xs ≡ i = omega arith in
-      rw q h
-
   both : (i : ℕ) → agrees due xs (suc i) ≡ true → (agrees due xs i ≡ true) × (eqb (get_or xs i 0) (due i) ≡ true)
   unfolding spec.agrees
   both i h = and_both (agrees due xs i) (eqb (get_or xs i 0) (due i)) h
@@ -85,7 +55,7 @@ module _ (due : ℕ → ℕ) (xs : List ℕ) where
     | inr e ↦ sym e
   ]
 
--- ---- the two comparisons at once
+-- ---- the comparisons
 
 -- every word with the one that is due
 pub words_agree : (v w : ℕ) (xs : List ℕ) → w ≡ v → (r : Bool)
@@ -111,9 +81,37 @@ bytes_agree xs after m false h =
     let b : h.0 < length after = omega arith in
     agrees_not (held8 after) xs h.0 l (rw (get_or-zip xs after h.0 (0, 0) l b) at (h.2 (0, 0)))
 
-module _ (after : List ℕ) (i : ℕ) where
-  pub held16_is : (x : ℕ) → x ≡ get_or after (2 * i) 0 + 256 * get_or after (2 * i + 1) 0 → x ≡ held16 after i
-  unfolding spec.held16
-  held16_is x e = e
+-- the two bytes of a pair make the sample that is due
+due_after_two : (xs : List ℕ) (i : ℕ) → held16 (drop 2 xs) i ≡ held16 xs (suc i)
+unfolding spec.held16
+due_after_two xs i =
+    let a : get_or (drop 2 xs) (2 * i) 0 ≡ get_or xs (2 * suc i) 0 = get_or-drop 2 xs (2 * i) 0 ∙ ap (λ k. get_or xs k 0) (omega arith) in
+    let b : get_or (drop 2 xs) (2 * i + 1) 0 ≡ get_or xs (2 * suc i + 1) 0 = get_or-drop 2 xs (2 * i + 1) 0 ∙ ap (λ k. get_or xs k 0) (omega arith) in
+    ap (λ k. k + 256 * get_or (drop 2 xs) (2 * i + 1) 0) a ∙ ap (λ k. get_or xs (2 * suc i) 0 + 256 * k) b
 
-pub ruleset agreeing = (agree_start, agree_step, agree_stop, agree_end, held16_is, rules)
+pair_due : (n : ℕ) (xs : List ℕ) (i : ℕ) (d : List ℕ) → i < n → from_le_bytes w16 (get_or (first_chunks 2 n xs) i d) ≡ held16 xs i
+unfolding spec.held16
+pair_due zero xs i d l = absurd (not-suc-le-zero l)
+pair_due (suc n) xs zero d l = omega (arith, get_or-take 2 xs 0 0 (omega arith), get_or-take 2 xs 1 0 (omega arith))
+pair_due (suc n) xs (suc i) d l = pair_due n (drop 2 xs) i d (omega arith) ∙ due_after_two xs i
+
+pair_in : (after : List ℕ) (pairs : List (List ℕ)) (k : ℕ) → pairs ≡ first_chunks 2 (length after / 2) after → k < length after / 2
+    → from_le_bytes w16 (get_or pairs k []) ≡ held16 after k
+pair_in after pairs k e l = rw e (pair_due (length after / 2) after k [] l)
+
+-- every sample with the pair of bytes that is due
+pub pairs_agree : (xs after : List ℕ) (pairs : List (List ℕ)) → 2 * length xs ≤ length after → pairs ≡ first_chunks 2 (length after / 2) after
+    → length pairs ≡ length after / 2 → (r : Bool)
+    → MatchBool r (AllWithin (λ (p : ℕ × List ℕ). p.0 ≡ from_le_bytes w16 p.1) (zip xs pairs) 0 (length (zip xs pairs)))
+    ((k : ℕ) × (k < length (zip xs pairs)) × HoldsAt (λ (p : ℕ × List ℕ). p.0 ≡ from_le_bytes w16 p.1 → ⊥) (zip xs pairs) k)
+    → r ≡ agrees (held16 after) xs (length xs)
+pairs_agree xs after pairs m e n true h =
+    agrees_all (held16 after) xs (length xs)
+    (λ k l.
+    let b : k < length pairs = omega (arith, n) in
+    let c : k < length (zip xs pairs) = omega (arith, length-zip xs pairs) in
+    rw (get_or-zip xs pairs k (0, []) l b) at (h k (0, []) (omega arith) c) ∙ pair_in after pairs k e (omega (arith, n)))
+pairs_agree xs after pairs m e n false h =
+    let l : h.0 < length xs = omega (arith, h.1, length-zip xs pairs) in
+    let b : h.0 < length pairs = omega (arith, n) in
+    agrees_not (held16 after) xs h.0 l (λ q. rw (get_or-zip xs pairs h.0 (0, []) l b) at (h.2 (0, [])) (q ∙ sym (pair_in after pairs h.0 e (omega (arith, n)))))

@@ -4,7 +4,7 @@ use Prim.Native.Nat.{ℕ, ◌+◌, ◌*◌, ◌/◌, ◌%◌, ◌≤◌, ◌<◌
 use native.Mathlib.Numerals.{add-one}
 use mathlib.Core.List.{List}
 use borrow.Author.Rules.{rules}
-use borrow.Author.Tests.{lt-ltb, le-ltb, lt-leb, le-leb}
+use borrow.Author.Tests.{lt-ltb, le-ltb}
 use lib.Dec.{leb}
 use lib.ListN.{length}
 use Rattle.scope.specs.Base.{one}
@@ -56,13 +56,6 @@ module _ (runs : List ℕ) (k : ℕ) where
   unfolding form.run_of
   run_past h = rw (le-ltb k (length runs / 4) h)
 
-module _ (run i : ℕ) where
-  pub over : run / 256 ≤ i → 1 ≡ one (leb (run / 256) i)
-  over h = rw (le-leb (run / 256) i h)
-
-  pub not_over : i < run / 256 → 0 ≡ one (leb (run / 256) i)
-  not_over h = rw (lt-leb (run / 256) i h)
-
 -- ---- the run that a place is in
 
 pub run_start : (runs : List ℕ) → 0 ≡ run_at runs 0
@@ -78,6 +71,6 @@ module _ (runs : List ℕ) (i k w : ℕ) (e : k ≡ run_at runs i) (d : w ≡ ru
   unfolding form.length_at
   length_is = rw (← e, ← d)
 
-pub ruleset runs = (run_in, run_past, over, not_over, rules)
+pub ruleset runs = (run_in, run_past, rules)
 
 pub ruleset spreading = (run_start, run_next, length_is, placing)

@@ -1,10 +1,10 @@
 -- What memory is lent with for a stored case, what it must hold afterwards, and the verdict. Document 01, "Refusal numbers": planes
 -- and a workspace of zeros; everything as found after 1 to 4; both wholly zero after any other. Assumes nothing.
-use Rattle.std.specs.Prelude.{ℕ, zero, suc, ◌+◌, ◌*◌, Bool, true, false, cond, ◌&&◌, List, get_or, eqb, ltb}
+use Rattle.std.specs.Prelude.{ℕ, zero, suc, ◌+◌, ◌*◌, Bool, true, false, cond, ◌&&◌, List, get_or, eqb, ltb, Result, Ok, Err}
 use Rattle.std.specs.Int.Bits.{bit_xor}
 use Rattle.cases.specs.declared.Told.{Told}
-use Rattle.cases.specs.declared.Verdict.{Verdict}
-use Rattle.cases.specs.declared.Verdict.TheVariants.{Right, Number, Kind, Place, Sample, Word}
+use Rattle.cases.specs.declared.Wrong.{Wrong}
+use Rattle.cases.specs.declared.Wrong.TheVariants.{Number, Kind, Place, Sample, Word}
 
 -- 1 to 4
 unfoldable pub as_found : ℕ → Bool
@@ -40,6 +40,16 @@ unfoldable pub agrees : (ℕ → ℕ) → List ℕ → ℕ → Bool
 agrees held xs zero = true
 agrees held xs (suc n) = agrees held xs n && eqb (get_or xs n 0) (held n)
 
+-- `Ok` where a case came out as stored, else what did not
+abbrev pub Verdict : Type 0
+Verdict = Result (Unit {0}) Wrong
+
+abbrev pub right : Verdict
+right = Ok tt
+
+abbrev pub wrong : Wrong → Verdict
+wrong w = Err w
+
 abbrev pub unless : Bool → Verdict → Verdict → Verdict
 unless true v w = w
 unless false v w = v
@@ -47,8 +57,8 @@ unless false v w = v
 -- the first of number, kind, place, samples and words that is not as stored
 unfoldable pub verdict_of : Told → Told → Bool → Bool → Verdict
 verdict_of told stored samples words =
-    unless (eqb told.number stored.number) Number
-    (unless (eqb told.kind stored.kind) Kind
-    (unless (eqb told.place stored.place) Place
-    (unless samples Sample
-    (unless words Word Right))))
+    unless (eqb told.number stored.number) (wrong Number)
+    (unless (eqb told.kind stored.kind) (wrong Kind)
+    (unless (eqb told.place stored.place) (wrong Place)
+    (unless samples (wrong Sample)
+    (unless words (wrong Word) right))))

@@ -5,8 +5,9 @@
 // refusals 1 to 4, which leave memory as found, they are lent with it.
 #![tactic(auto)]
 
-ghost use Rattle.std.specs.Prelude.{◌≡◌, ◌+◌, ◌*◌, ◌/◌, ◌≤◌, length, leb};
-ghost use Rattle.scope.specs.Base.{list_below, one};
+ghost use Rattle.std.specs.Prelude.{◌≡◌, ℕ, ◌+◌, ◌*◌, ◌/◌, ◌≤◌, List, length, leb};
+ghost use Rattle.std.proofs.Common.{rules};
+ghost use Rattle.scope.specs.Base.{list_below};
 ghost use Rattle.scope.specs.Layout.{le32};
 ghost use Rattle.cases.specs.Form.{shape_of, stored_of, case_of, run_of, length_at};
 ghost use Rattle.cases.specs.Held.{flip_of, held8, held16, lent8, lent16, lent_word, word_after, agrees, verdict_of};
@@ -15,7 +16,8 @@ use layout::le32_at;
 
 // ---- the form
 
-// The geometry that an entry is called with: numbers, as the stored list has them and as they cross to the entry.
+// The geometry that an entry is called with: numbers, as the stored list has them and as they cross to the entry. This and `Told` are types of
+// their own, not the decoder's: the list's library stands on nothing of the decoder that it judges.
 #[derive(Clone, Copy)]
 pub struct Shape {
     pub width: u32,
@@ -120,14 +122,11 @@ fn run_of(runs: &[u8], k: usize) -> usize
     0
 }
 
-// 1 where the run has ended before place i, else 0.
-fn is_over(run: usize, i: usize) -> usize
-    ensures { (result ≡ one (leb (run / 256) i)) × (result ≤ 1) }
+// Whether the run has ended before place i.
+fn is_over(run: usize, i: usize) -> bool
+    ensures { result ≡ leb (run / 256) i }
 {
-    if run / 256 <= i {
-        return 1;
-    }
-    0
+    run / 256 <= i
 }
 
 // The lengths that a case lends, run by run.
@@ -138,7 +137,9 @@ pub fn spread(runs: &[u8], lengths: &mut [u8])
     for (i, length) in lengths.iter_mut().enumerate() {
         let run = run_of(runs, k);
         *length = (run % 256) as u8;
-        k += is_over(run, i + 1);
+        if is_over(run, i + 1) {
+            k += 1;
+        }
     }
 }
 
@@ -155,35 +156,6 @@ fn flip_of(number: u32) -> u8
     }
 }
 
-// The 16-bit sample of two bytes, the low one first.
-fn two_bytes(low: u8, high: u8) -> u16
-    ensures { result ≡ low + 256 * high }
-{
-    low as u16 + 256 * high as u16
-}
-
-// The planes of a case whose stored answer has this number, where `after` is what they must hold afterwards.
-pub fn lend_u8(after: &[u8], number: u32, planes: &mut [u8])
-    requires { length planes.old ≤ length after.now }
-    ensures { planes.new ≡ list_below (length planes.old) (lent8 after.now (flip_of number)) }
-{
-    let flip = flip_of(number);
-    for (i, plane) in planes.iter_mut().enumerate() {
-        *plane = after[i] ^ flip;
-    }
-}
-
-// The same for 16-bit samples.
-pub fn lend_u16(after: &[u8], number: u32, planes: &mut [u16])
-    requires { 2 * length planes.old ≤ length after.now }
-    ensures { planes.new ≡ list_below (length planes.old) (lent16 after.now (flip_of number)) }
-{
-    let flip = flip_of(number);
-    for (i, plane) in planes.iter_mut().enumerate() {
-        *plane = two_bytes(after[2 * i] ^ flip, after[2 * i + 1] ^ flip);
-    }
-}
-
 // Every word of the workspace one value that is not zero.
 pub fn lend_words(words: &mut [u32])
     ensures { words.new ≡ list_below (length words.old) (λ _. lent_word) }
@@ -193,28 +165,7 @@ pub fn lend_words(words: &mut [u32])
 
 // ---- after the answer
 
-// Whether the planes hold what they must.
-pub fn holds_u8(planes: &[u8], after: &[u8]) -> bool
-    requires { length planes.now ≤ length after.now }
-    ensures { result ≡ agrees (held8 after.now) planes.now (length planes.now) }
-{
-    planes.iter().zip(after).all(|(p, a)| *p == *a)
-}
-
-// The same for 16-bit samples.
-pub fn holds_u16(planes: &[u16], after: &[u8]) -> bool
-    requires { 2 * length planes.now ≤ length after.now }
-    ensures { result ≡ agrees (held16 after.now) planes.now (length planes.now) }
-{
-    for (i, plane) in planes.iter().enumerate() {
-        if *plane != two_bytes(after[2 * i], after[2 * i + 1]) {
-            return false;
-        }
-    }
-    true
-}
-
-// What every word of the workspace must hold.
+// What every word of the workspace must hold. Told as `flip_of` is, by two values of its own: a function for both would be given all of it.
 fn word_after(number: u32) -> u32
     ensures { result ≡ word_after number }
 {
@@ -232,12 +183,97 @@ pub fn holds_words(words: &[u32], number: u32) -> bool
     words.iter().all(|w| *w == word)
 }
 
+// ---- planes, at either width
+
+// A sample as the list has it, at either width: how the planes of a case are lent, and whether they hold what they must. `after` is what they
+// must hold afterwards, byte for byte. A contract speaks of planes by `values`, the list of their numbers; at u8 and u16 that is the list itself.
+pub trait Listed: Copy {
+    ghost values: { List Self → List ℕ };
+
+    ghost BYTES: { ℕ };
+
+    // What place i of the planes must hold; and what is lent there, with these bits of each byte flipped.
+    ghost held: { List ℕ → ℕ → ℕ };
+
+    ghost lent: { List ℕ → ℕ → ℕ → ℕ };
+
+    // How many bytes of the list a sample takes.
+    const BYTES: usize;
+
+    // The planes of a case whose stored answer has this number.
+    fn lend(after: &[u8], number: u32, planes: &mut [Self])
+        requires { BYTES * length planes.old ≤ length after.now }
+        ensures { values planes.new ≡ list_below (length planes.old) (lent after.now (flip_of number)) };
+
+    // Whether the planes hold what they must.
+    fn holds(planes: &[Self], after: &[u8]) -> bool
+        requires { BYTES * length planes.now ≤ length after.now }
+        ensures { result ≡ agrees (held after.now) (values planes.now) (length planes.now) };
+
+    ghost few_bytes: { BYTES ≤ 2 };
+}
+
+// A byte a sample.
+impl Listed for u8 {
+    ghost values = { λ xs. xs };
+
+    ghost BYTES = { 1 };
+
+    ghost held = { held8 };
+
+    ghost lent = { lent8 };
+
+    const BYTES: usize = 1;
+
+    ghost few_bytes = { Prim.search rules };
+
+    fn lend(after: &[u8], number: u32, planes: &mut [u8]) {
+        let flip = flip_of(number);
+        for (i, sample) in planes.iter_mut().enumerate() {
+            *sample = after[i] ^ flip;
+        }
+    }
+
+    fn holds(planes: &[u8], after: &[u8]) -> bool {
+        planes.iter().zip(after).all(|(p, a)| *p == *a)
+    }
+}
+
+// Two bytes a sample, the low one first.
+impl Listed for u16 {
+    ghost values = { λ xs. xs };
+
+    ghost BYTES = { 2 };
+
+    ghost held = { held16 };
+
+    ghost lent = { lent16 };
+
+    const BYTES: usize = 2;
+
+    ghost few_bytes = { Prim.search rules };
+
+    fn lend(after: &[u8], number: u32, planes: &mut [u16]) {
+        let flip = flip_of(number);
+        for (i, sample) in planes.iter_mut().enumerate() {
+            *sample = u16::from_le_bytes([after[2 * i] ^ flip, after[2 * i + 1] ^ flip]);
+        }
+    }
+
+    fn holds(planes: &[u16], after: &[u8]) -> bool {
+        let (pairs, _) = after.as_chunks::<2>();
+        planes
+            .iter()
+            .zip(pairs)
+            .all(|(p, a)| *p == u16::from_le_bytes(*a))
+    }
+}
+
 // ---- the verdict
 
-// A case came out as stored; or what did not; or its bytes are not of the form, or ask for more memory than there is.
+// What of a case did not come out as stored; or that its bytes are not of the form, or ask for more memory than there is.
 #[derive(Clone, Copy)]
-pub enum Verdict {
-    Right,
+pub enum Wrong {
     Number,
     Kind,
     Place,
@@ -246,24 +282,27 @@ pub enum Verdict {
     Form,
 }
 
+// `Ok` where a case came out as stored.
+pub type Verdict = Result<(), Wrong>;
+
 // The first of number, kind, place, samples and workspace words that is not as stored.
 pub fn judge(told: Told, stored: Told, samples: bool, words: bool) -> Verdict
     ensures { result ≡ verdict_of told stored samples words }
 {
     if told.number != stored.number {
-        return Verdict::Number;
+        return Err(Wrong::Number);
     }
     if told.kind != stored.kind {
-        return Verdict::Kind;
+        return Err(Wrong::Kind);
     }
     if told.place != stored.place {
-        return Verdict::Place;
+        return Err(Wrong::Place);
     }
     if !samples {
-        return Verdict::Sample;
+        return Err(Wrong::Sample);
     }
     if !words {
-        return Verdict::Word;
+        return Err(Wrong::Word);
     }
-    Verdict::Right
+    Ok(())
 }

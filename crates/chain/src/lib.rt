@@ -1,7 +1,8 @@
 // Document 01, "Words and lookup": "the table reading takes every sample from that lookup". Words one after the other from a bit position
 // on, by a table, into samples of either width: as many as a buffer has places, or row by row into rows that stand every pitch elements.
 // The table, its longest length m and the payload go side by side, here and in kept: of a struct that holds slices the toolchain makes no
-// plain reading, which the lemmas in proofs/Once.antt are about.
+// plain reading, so that what settles a statement has to be said of the raw clauses, as in reader. `Readable` and `Rowed` relate them to a
+// position and a buffer of one call, and so are asked there.
 #![tactic(auto)]
 
 ghost use Rattle.std.specs.Prelude.{◌≡◌, ◌*◌, length};

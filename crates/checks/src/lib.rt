@@ -31,7 +31,7 @@ fn check_size(s: usize, bytes: usize, samples: usize, bits: usize) -> Answer
     Ok(())
 }
 
-// A slice of a frame of `len` bytes, whose plane's shortest word has b bits; 0 where the plane has none.
+// A slice of a frame of `len` bytes, whose plane's shortest word has b bits; 0 where the plane has none, as `shortest` has it.
 fn check_slice(a: SliceAt, len: usize, depth: usize, b: usize) -> Answer
     requires width_bound { (a.rows * a.width ≤ 268435456) × (a.start < 4294967328) }
     requires depth_bound { (depth < 256) × (b < 256) }

@@ -170,7 +170,7 @@ fn decode<T: Width>(
     answer
 }
 
-// The entry for depth 8.
+// The entry for depth 8. The two entries stand side by side under their names: the demands, the exports and the host speak of each.
 pub fn decode8(
     frame: &[u8],
     g: Geometry,

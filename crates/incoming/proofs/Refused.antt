@@ -2,11 +2,11 @@
 use mathlib.Core.Path.{◌≡◌, refl, sym, ◌∙◌}
 use mathlib.Core.Bool.{Bool, true, false, not, ◌&&◌, ◌||◌}
 use mathlib.Core.Logic.{inl, inr}
-use Prim.Native.Nat.{ℕ, ◌*◌, ◌%◌, ◌^◌, ◌≤◌, ◌<◌}
+use Prim.Native.Nat.{ℕ, ◌*◌, ◌%◌, ◌^◌, ◌≤◌}
 use native.Mathlib.Omega.{arith}
 use mir.Syntax.{w64}
 use mir.Val.{Fits}
-use borrow.Author.Tests.{eq-eqb, ne_eqb, eqb-true, leb-true, le-leb, lt-leb, not-false}
+use borrow.Author.Tests.{eq-eqb, ne_eqb, eqb-true, leb-true, not-false}
 use borrow.Author.Rules.{rules}
 use lib.Dec.{eqb, leb}
 use Rattle.scope.specs.Refusals.{refuse_if, ◌and_then◌}
@@ -32,53 +32,6 @@ use Rattle.incoming.specs.Steps as steps
 use Rattle.incoming.specs.Steps.{shape_checks, size_checks}
 
 -- ---- refusal 1
-
--- a side of 0
-pub size_none : (n : ℕ) → n < 1 → false ≡ size_fits n
-unfolding geo.size_fits
-size_none n h = rw (lt-leb 1 n h)
-
--- any other side is tested against the cap
-pub size_most : (n : ℕ) → 1 ≤ n → leb n 16384 ≡ size_fits n
-unfolding geo.size_fits
-size_most n h = rw (le-leb 1 n h)
-
--- factor 1 always fits
-pub factor_one : (f : Family) (s : ℕ) → s ≡ 1 → true ≡ factor_fits f s
-unfolding geo.factor_fits
-factor_one f s e = rw (eq-eqb s 1 e)
-
-module _ (f : Family) (s : ℕ) (r : Bool) (h : r ≡ subsampled f) (ne : s ≡ 1 → ⊥) where
-  -- any other is 2 in a subsampled family
-  pub factor_two : r ≡ true → eqb s 2 ≡ factor_fits f s
-  unfolding geo.factor_fits
-  factor_two t = rw (ne_eqb s 1 ne, ← h, t)
-
-  -- and none in the others
-  pub factor_none : r ≡ false → false ≡ factor_fits f s
-  unfolding geo.factor_fits
-  factor_none t = rw (ne_eqb s 1 ne, ← h, t)
-
-module _ (which : Entry) (depth : ℕ) where
-  -- depth 8
-  pub depth_8 : which ≡ Eight → eqb depth 8 ≡ depth_fits which depth
-  depth_8 e = rw e
-
-  module _ (e : which ≡ Deep) where
-    -- depth 10
-    pub depth_10 : depth ≡ 10 → true ≡ depth_fits which depth
-    depth_10 h = rw (e, eq-eqb depth 10 h)
-
-    module _ (n : depth ≡ 10 → ⊥) where
-      -- depth 12
-      pub depth_12 : depth ≡ 12 → true ≡ depth_fits which depth
-      depth_12 h = rw (e, ne_eqb depth 10 n, eq-eqb depth 12 h)
-
-      -- depth 14, or none
-      pub depth_14 : (depth ≡ 12 → ⊥) → eqb depth 14 ≡ depth_fits which depth
-      depth_14 h = rw (e, ne_eqb depth 10 n, ne_eqb depth 12 h)
-
-pub ruleset tests = (size_none, size_most, factor_one, factor_two, factor_none, depth_8, depth_10, depth_12, depth_14, rules)
 
 pub ruleset chained = (and_first, and_before, and_second, and_none, and_true, yes_is, no_is)
 

@@ -14,23 +14,14 @@ use stretches::all_elements;
 fn size_fits(n: usize) -> bool
     ensures { result ≡ size_fits n }
 {
-    if n < 1 {
-        return false;
-    }
-    n <= 16384
+    (1..=16384).contains(&n)
 }
 
 // "each 1 or 2, and 1 unless Yuv or Yuva"
 fn factor_fits(f: Family, s: usize) -> bool
     ensures { result ≡ factor_fits f s }
 {
-    if s == 1 {
-        return true;
-    }
-    if is_subsampled(f) {
-        return s == 2;
-    }
-    false
+    s == 1 || is_subsampled(f) && s == 2
 }
 
 // "One entry serves depth 8 .., one depths 10, 12 and 14"
@@ -39,15 +30,7 @@ fn depth_fits(which: Entry, depth: usize) -> bool
 {
     match which {
         Entry::Eight => depth == 8,
-        Entry::Deep => {
-            if depth == 10 {
-                return true;
-            }
-            if depth == 12 {
-                return true;
-            }
-            depth == 14
-        },
+        Entry::Deep => depth == 10 || depth == 12 || depth == 14,
     }
 }
 

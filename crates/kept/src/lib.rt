@@ -69,7 +69,8 @@ fn down(m: usize) -> usize
     64 - m.min(12)
 }
 
-// The workspace word of the word that the window begins with, or one whose low byte is 0: there is none, or it is longer than m.
+// The workspace word of the word that the window begins with, or one whose low byte is 0: there is none, or it is longer than m. As an unfilled
+// slot says none by 0, so does this: its promise, `entry_in`, is of that number.
 pub fn entry(words: &[u32], m: usize, w: u64) -> u32
     requires { (0 < m) × (m ≤ 18) }
     ensures { result ≡ entry_in words.now m w }

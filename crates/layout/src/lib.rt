@@ -96,7 +96,7 @@ fn is_raw(flag: u8) -> bool
     flag % 2 == 1
 }
 
-// All of it: slice s, which is place k of plane p.
+// All of it: slice s, which is place k of plane p (`Placed`: the frame, s, p and k of one call, and so of no type).
 pub fn slice_at(frame: &[u8], g: SoundGeometry, s: usize, p: usize, k: usize) -> SliceAt
     requires s_bound { s < slice_count g.of }
     requires placed { Placed frame.now g.of s p k }

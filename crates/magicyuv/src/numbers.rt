@@ -31,7 +31,7 @@ fn family(n: u32) -> Result<Family, Refusal>
     }
 }
 
-// 0 and 1 for interlaced.
+// 0 and 1 for interlaced: of numbers to a bool there can be no impl of ours.
 fn interlaced(n: u32) -> Result<bool, Refusal>
     ensures { result ≡ interlaced_named n }
 {

@@ -1,6 +1,6 @@
 // What the archive libmagicyuv.a exports: the four functions of crate magicyuv under their names, as extern "C", each with the clauses that it
 // has there and a call of it. A crate is a library or a static library, so the library that other crates stand on has no exports of
-// its own. Document 01, "Both entries are callable from our Rust host on numbers and slices".
+// its own. The two frame entries are one text twice, since C has no generics. Document 01, "Both entries are callable from our Rust host on numbers and slices".
 #![tactic(auto)]
 
 ghost use Rattle.scope.specs.declared.Entry.TheVariants.{Eight, Deep};

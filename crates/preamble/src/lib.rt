@@ -60,7 +60,7 @@ fn check_order(frame: &[u8], g: SoundGeometry) -> Answer
         if k <= seen[p] {
             return Err(Refusal(8, here)); // it has its K
         }
-        seen[p] = seen[p] + 1;
+        seen[p] += 1;
     }
     Ok(())
 }

@@ -1,4 +1,5 @@
-// Document 01, "Layout": the samples of a raw slice, which is one byte a sample at depth 8 and packed at depth bits above that.
+// Document 01, "Layout": the samples of a raw slice, which is one byte a sample at depth 8 and packed at depth bits above that. That the samples
+// lie in the payload (`RawIn`) is asked of payload, first sample and buffer together, and so of no type.
 #![tactic(auto)]
 
 ghost use Rattle.std.specs.Prelude.{◌≡◌, ◌+◌, ◌-◌, ◌*◌, ◌/◌, ◌%◌, ◌^◌, ◌<◌, ◌≤◌, length};

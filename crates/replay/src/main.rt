@@ -8,10 +8,9 @@
 // be printed, ends the program with that error.
 #![tactic(auto)]
 
-ghost use Rattle.std.specs.Prelude.{ℕ, ◌*◌, ◌≤◌, length, IfSome, IfOk};
-ghost use Rattle.std.proofs.Common.{rules};
+ghost use Rattle.std.specs.Prelude.{◌*◌, ◌≤◌, length, IfSome, IfOk};
 
-use cases::{Case, Shape, Told, Verdict};
+use cases::{Case, Listed, Shape, Told, Verdict, Wrong};
 use magicyuv::Reply;
 use std::io::Read;
 use std::rt::Files;
@@ -19,37 +18,27 @@ use std::{fs, io};
 
 // ---- what is printed
 
-// 1 where the case is wrong, with a line that says in what.
-fn print_verdict(rt: &impl Print, i: usize, v: Verdict) -> io::Result<usize>
-    ensures { IfOk result (λ n. n ≤ 1) }
-{
+// Whether the case is wrong, with a line that says in what.
+fn print_verdict(rt: &impl Print, i: usize, v: Verdict) -> io::Result<bool> {
     let what = match v {
-        Verdict::Right => return Ok(0),
-        Verdict::Number => "the number",
-        Verdict::Kind => "the kind of place",
-        Verdict::Place => "the place",
-        Verdict::Sample => "a sample",
-        Verdict::Word => "a workspace word",
-        Verdict::Form => "not of the form, or larger than the memory",
+        Ok(()) => return Ok(false),
+        Err(Wrong::Number) => "the number",
+        Err(Wrong::Kind) => "the kind of place",
+        Err(Wrong::Place) => "the place",
+        Err(Wrong::Sample) => "a sample",
+        Err(Wrong::Word) => "a workspace word",
+        Err(Wrong::Form) => "not of the form, or larger than the memory",
     };
     println!(rt; "{i} WRONG: {what}")?;
-    Ok(1)
+    Ok(true)
 }
 
 // ---- a width of samples
 
-// 8 bits, for depth 8, or 16 bits, for 10, 12 and 14: how planes of such samples are lent, decoded and compared.
-trait Width: Copy {
-    ghost BYTES: { ℕ };
-
-    // How many bytes of the list a sample takes.
-    const BYTES: usize;
-
+// 8 bits, for depth 8, or 16 bits, for 10, 12 and 14: a sample as the list has it, with the entry that decodes planes of such samples.
+trait Width: Listed {
     // A depth that the width's entry serves.
     const DEPTH: u32;
-
-    fn lend(after: &[u8], number: u32, planes: &mut [Self])
-        requires { BYTES * length planes.old ≤ length after.now };
 
     fn decode(
         g: Shape,
@@ -58,25 +47,10 @@ trait Width: Copy {
         planes: &mut [Self],
         words: &mut [u32],
     ) -> Reply;
-
-    fn holds(planes: &[Self], after: &[u8]) -> bool
-        requires { BYTES * length planes.now ≤ length after.now };
-
-    ghost few_bytes: { BYTES ≤ 2 };
 }
 
 impl Width for u8 {
-    ghost BYTES = { 1 };
-
-    const BYTES: usize = 1;
-
     const DEPTH: u32 = 8;
-
-    ghost few_bytes = { Prim.search rules };
-
-    fn lend(after: &[u8], number: u32, planes: &mut [u8]) {
-        cases::lend_u8(after, number, planes)
-    }
 
     fn decode(
         g: Shape,
@@ -100,24 +74,10 @@ impl Width for u8 {
             g.interlaced,
         )
     }
-
-    fn holds(planes: &[u8], after: &[u8]) -> bool {
-        cases::holds_u8(planes, after)
-    }
 }
 
 impl Width for u16 {
-    ghost BYTES = { 2 };
-
-    const BYTES: usize = 2;
-
     const DEPTH: u32 = 10;
-
-    ghost few_bytes = { Prim.search rules };
-
-    fn lend(after: &[u8], number: u32, planes: &mut [u16]) {
-        cases::lend_u16(after, number, planes)
-    }
 
     fn decode(
         g: Shape,
@@ -140,10 +100,6 @@ impl Width for u16 {
             g.depth,
             g.interlaced,
         )
-    }
-
-    fn holds(planes: &[u16], after: &[u8]) -> bool {
-        cases::holds_u16(planes, after)
     }
 }
 
@@ -189,7 +145,7 @@ fn replay_lent<T: Width>(
 {
     let mut words = [0; 20000];
     if planes.len() < c.samples || 20000 < c.words || after.len() != T::BYTES * c.samples {
-        return Verdict::Form;
+        return Err(Wrong::Form);
     }
     replay(
         c,
@@ -217,37 +173,34 @@ fn replay_entry<T: Width, Other: Width>(
         ..c.shape
     };
     let reply = Other::decode(g, frame, lengths, other, &mut [0; 4]);
-    if reply.number == 1 {
-        return replay_lent(c, after, frame, lengths, planes);
+    if reply.number != 1 {
+        return Err(Wrong::Number);
     }
-    Verdict::Number
+    replay_lent(c, after, frame, lengths, planes)
 }
 
 // A case by its parts, with the lengths that its runs spell, by the entry that it names.
 fn replay_case(case: &[u8], c: Case, lengths: &mut [u8]) -> Verdict
     requires { (76 ≤ c.after) × (c.after ≤ c.frame) × (c.frame ≤ c.end) × (c.end ≤ length case.now) }
 {
-    if lengths.len() < c.lengths {
-        return Verdict::Form;
-    }
-    let lengths = &mut lengths[..c.lengths];
+    let lengths = lengths.get_mut(..c.lengths).ok_or(Wrong::Form)?;
     cases::spread(&case[76..c.after], lengths);
     let after = &case[c.after..c.frame];
     let frame = &case[c.frame..c.end];
     match c.entry {
         8 => replay_entry(c, after, frame, lengths, &mut [0u8; 400], &mut [0u16; 4]),
         16 => replay_entry(c, after, frame, lengths, &mut [0u16; 400], &mut [0u8; 4]),
-        _ => Verdict::Form,
+        _ => Err(Wrong::Form),
     }
 }
 
 // ---- the list
 
-// How many bytes of the list a case took, and 1 where it is wrong.
+// How many bytes of the list a case took, and whether it is wrong.
 #[derive(Clone, Copy)]
 pub struct Taken {
     pub bytes: usize,
-    pub wrong: usize,
+    pub wrong: bool,
 }
 
 // The case at the front of the rest of the list, where that is a whole one.
@@ -267,11 +220,11 @@ fn whole_case(rest: &[u8]) -> Option<Case>
 // The case at the front of the rest of the list; all of the rest where that is no whole case.
 fn replay_next(rt: &impl Print, i: usize, rest: &[u8], lengths: &mut [u8]) -> io::Result<Taken>
     requires { 1 ≤ length rest.now }
-    ensures { IfOk result (λ t. (1 ≤ t.bytes) × (t.bytes ≤ length rest.now) × (t.wrong ≤ 1)) }
+    ensures { IfOk result (λ t. (1 ≤ t.bytes) × (t.bytes ≤ length rest.now)) }
 {
     let (bytes, verdict) = match whole_case(rest) {
         Some(c) => (c.end, replay_case(rest, c, lengths)),
-        None => (rest.len(), Verdict::Form),
+        None => (rest.len(), Err(Wrong::Form)),
     };
     Ok(Taken {
         bytes,
@@ -289,7 +242,7 @@ fn replay_all(rt: &impl Print, list: &[u8], lengths: &mut [u8]) -> io::Result<()
         let t = replay_next(rt, i, &list[at..], lengths)?;
         at += t.bytes;
         i += 1;
-        wrong += t.wrong;
+        wrong += usize::from(t.wrong);
     }
     println!(rt; "{i} cases, {wrong} wrong")
 }

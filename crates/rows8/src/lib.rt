@@ -1,5 +1,6 @@
 // The loops over a row of a slice at depth 8, past column 0. Document 01, "Prediction, slice by slice". Sums wrap, which is modulo 2^8. Column 0
-// is set first, by predict; the loop over the other columns has no test but its end, and carries left and top-left.
+// is set first, by predict; the loop over the other columns has no test but its end, and carries left and top-left. Where a row starts and ends and
+// how far back the row f up stands are plain numbers, here and in rows16: each loop counts with them, and asks less of them than the next.
 #![tactic(auto)]
 
 ghost use Rattle.std.specs.Prelude.{◌≡◌, ◌+◌, ◌-◌, ◌<◌, ◌≤◌, length};

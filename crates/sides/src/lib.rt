@@ -24,6 +24,8 @@ fn is_small(g: Geometry, p: usize) -> bool
     false
 }
 
+// The three sides below are told by their fields alone; a function for all would be given the field and the factor, which is the whole of each.
+
 pub fn plane_width(g: SoundGeometry, p: usize) -> usize
     ensures { (result ≡ plane_width g.of p) × (1 ≤ result) × (result ≤ 16384) }
 {
@@ -78,8 +80,5 @@ pub fn place_rows(g: SoundGeometry, p: usize, k: usize) -> usize
     let full = plane_slice_height(g, p);
     let h = plane_height(g, p);
     let left = h - k * full;
-    if full < left {
-        return full;
-    }
-    left
+    full.min(left)
 }

@@ -36,7 +36,7 @@ fn no_codes(answer: Answer) -> Codes
     ensures { result ≡ no_codes answer }
 {
     Codes {
-        answer: answer,
+        answer,
         from: [0; 4],
         to: [0; 4],
         longest: [0; 4],
@@ -61,7 +61,7 @@ fn with_code(c: Codes, p: usize, code: Code) -> Codes
     next
 }
 
-// 9 and 10 of plane p of those lent, or its code.
+// 9 and 10 of plane p of those lent, or its code. That the lengths are as many as the planes ask relates them to the geometry of the call.
 fn weigh_plane(g: SoundGeometry, lengths: &[u8], p: usize) -> Result<Code, Refusal>
     requires { (length lengths.now ≡ plane_count g.of * 2 ^ g.of.depth) × (p < plane_count g.of) }
     ensures { result ≡ weighed (lengths_of g.of lengths.now p) p }

@@ -36,7 +36,7 @@ pub(crate) fn tally(lengths: &[u8]) -> Option<[u32; 19]>
     Some(count)
 }
 
-// The longest length that some symbol has; 0 where none has a word.
+// The longest length that some symbol has; 0 where none has a word, as `longest` and `shortest` of document 01's definitions have it.
 pub(crate) fn longest_in(count: [u32; 19]) -> usize
     ensures { (result ≡ highest count 19) × (result ≤ 18) }
 {

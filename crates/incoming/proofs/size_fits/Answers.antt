@@ -1,9 +1,8 @@
--- `lent::size_fits` meets its contract: 1 to 16,384 (document 01, "Refusal numbers"). Assumes nothing.
-use Rattle.incoming.proofs.Refused.{tests}
+-- `incoming::size_fits` meets its contract: "each 1 to 16,384" (document 01, "What comes in"). Assumes nothing.
+use Rattle.std.proofs.Common.{rules}
+use Rattle.scope.specs.Geometry as geo
 use Rattle.incoming.proofs.size_fits.Goals as goal
 
-pub returns-then-n-lt1 : goal.returns-then-n-lt1
-returns-then-n-lt1 c = search tests
-
 pub returns : goal.returns
-returns c = search tests
+unfolding geo.size_fits
+returns c = search rules

@@ -5,8 +5,5 @@ use Rattle.sides.proofs.place_rows.Goals as goal
 pub overflow_sub-left : goal.overflow_sub-left
 overflow_sub-left c = search place_rows
 
-pub returns-then-full-left : goal.returns-then-full-left
-returns-then-full-left c = search place_rows
-
 pub returns : goal.returns
 returns c = search place_rows

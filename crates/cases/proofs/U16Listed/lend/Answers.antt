@@ -1,6 +1,6 @@
--- `cases::lend_u8` meets its contract: the loop gives each place what is lent there. Assumes nothing.
+-- `Listed::lend` of `u16` meets its contract: the loop gives each place what is lent there. Assumes nothing.
 use Rattle.cases.proofs.Placing.{placing}
-use Rattle.cases.proofs.lend_u8.Goals as goal
+use Rattle.cases.proofs.U16Listed.lend.Goals as goal
 
 pub loop-i-init : goal.loop-i-init
 loop-i-init c = search placing

@@ -1,11 +1,11 @@
--- The loop of `cases::lend_u8`: each place so far has what is lent there (host/README.md, "The stored list"). Assumes nothing.
+-- The loop of `Listed::lend` of `u8`: each place so far has what is lent there (host/README.md, "The stored list"). Assumes nothing.
 use Rattle.cases.proofs.Placing.{placed}
 use Rattle.memory.proofs.InPlace.{At}
 use Prim.Native.Nat.{◌≤◌}
 use lib.ListN.{length}
 use mathlib.Core.Path.{◌≡◌}
 use Rattle.cases.specs.Held.{flip_of, lent8}
-use Rattle.cases.proofs.lend_u8.Given as goal
+use Rattle.cases.proofs.U8Listed.lend.Given as goal
 
 abbrev pub invariant-loop-i : goal.invariant-loop-i
 invariant-loop-i l = (l.flip ≡ flip_of l.number) × At (placed (lent8 l.after (flip_of l.number))) l.initial.planes l.planes l.i × (length l.initial.planes ≤ length l.after)

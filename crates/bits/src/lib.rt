@@ -35,7 +35,8 @@ fn four(payload: &[u8], i: usize) -> u32
 }
 
 // The 64 bits from byte i on, all eight bytes being in the payload: a caller that has tested that once reads them without a test each.
-// Joined in two halves, since so they compile to one load and a byte swap; one flat sum of eight bytes does not.
+// Joined in two halves, since so they compile to one load and a byte swap, and one flat sum of eight bytes does not; and so that there are halves to
+// be joined the wrong way (must-fail/second_half_first.edit).
 pub fn eight(payload: &[u8], i: usize) -> u64
     requires { i + 8 ≤ length payload.now }
     ensures { result ≡ window payload.now (i * 8) 64 }

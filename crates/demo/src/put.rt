@@ -3,7 +3,8 @@ use scope::{Answer, Place, Refusal};
 use std::fmt::Display;
 use std::io;
 
-// `refusal 12 at slice 0` or, where nothing is refused, the word for that.
+// `refusal 12 at slice 0` or, where nothing is refused, the word for that. No Display of a refusal: the text is this program's alone, and an impl
+// would have to stand in scope.
 pub(crate) fn answer(rt: &impl Print, done: &str, a: Answer) -> io::Result<()> {
     let Err(Refusal(n, place)) = a else {
         return rt.print(done);

@@ -18,7 +18,7 @@ use std::{fs, io};
 
 // ---- what is printed
 
-// Whether the case is wrong, with a line that says in what.
+// Whether the case is wrong, with a line that says in what; the words are this program's alone, so that the type has no Display.
 fn print_verdict(rt: &impl Print, i: usize, v: Verdict) -> io::Result<bool> {
     let what = match v {
         Ok(()) => return Ok(false),
@@ -120,6 +120,7 @@ fn replay<T: Width>(
     T::lend(after, stored.number, planes);
     cases::lend_words(words);
     let reply = T::decode(c.shape, frame, lengths, planes, words);
+    // No From: a reply is magicyuv's and what is told cases', so that no impl can stand here.
     let told = Told {
         number: reply.number,
         kind: reply.kind,

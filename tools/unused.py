@@ -3,7 +3,7 @@
   imports    a name that a file imports and does not use;
   laws       a law of proofs/ or a definition of specs/ that nothing cites: its own file not outside its declaration, and no other file
              imports it (what a function's own folder in proofs/ proves is that function's proof, and a record's fields are its record's);
-  functions  a `pub` function that no other crate calls.
+  functions  a `pub` function that no other crate calls, or a method, of a type or of a public trait.
   ends       a name in tools/theorems.txt that nothing declares.
 The theorems of proofs/Once.antt are ends in themselves, and so is what tools/theorems.txt names, a name a line.
 
@@ -126,8 +126,16 @@ def laws(files, ends):
     return found
 
 
+def methods(text):
+    """The type or trait and the name of each public method: those of a type, and those that a public trait declares."""
+    blocks = re.findall(r"(?ms)^(impl(?:<[^>]*>)? (\w+)(?:<[^>]*>)? \{|pub trait (\w+)[^{;]*\{)(.*?)^\}", text)
+    for _, type_, trait, body in blocks:
+        for name in re.findall(rf"(?m)^    {'pub ' if type_ else ''}fn (\w+)", body):
+            yield type_ or trait, name
+
+
 def functions(files, ends):
-    """Public functions that no other crate calls."""
+    """Public functions and methods that no other crate calls."""
     sources = [f for f in files if f.path.suffix == ".rt"]
     calls = {(c, f.crate) for f in sources for c in re.findall(r"\b(?:\w+::)+\w+", "\n".join(f.imports + f.code))}
     calls |= {(f"{p[2]}::{n.split(' as ')[0]}", f.crate) for f in sources for p in map(PATH.match, f.imports) if p for n in brought(p[3])}
@@ -137,6 +145,12 @@ def functions(files, ends):
             called = any(re.fullmatch(rf"{file.crate}(::\w+)*::{name}", c) and by != file.crate for c, by in calls)
             if not called and f"{file.crate}::{name}" not in ends:
                 found.append(f"{file.path}: pub fn {name}")
+        others = "\n".join(f.text for f in sources if f.crate != file.crate)
+        for owner, name in methods(file.text):
+            # by the value, the type, or a parameter of that type
+            called = re.search(rf"\.{name}\(|\b(?:{owner}|[A-Z]|Other|Self)::{name}\(", others)
+            if not called and f"{file.crate}::{name}" not in ends:
+                found.append(f"{file.path}: fn {name} of {owner}")
     return found
 
 
@@ -144,6 +158,7 @@ def stale(files, ends):
     """Ends that nothing declares."""
     laws = {name for f in files if f.stated for name, _, _ in declarations(f)}
     calls = {f"{f.crate}::{name}" for f in files for name in re.findall(r"(?m)^pub fn (\w+)", f.text)}
+    calls |= {f"{f.crate}::{name}" for f in files if f.path.suffix == ".rt" for _, name in methods(f.text)}
     return sorted(ends - laws - calls)
 
 

@@ -20,8 +20,8 @@ use views::Stretch;
 pub fn clear<T: Sample>(samples: &mut [T])
     ensures { T.values samples.new ≡ zeros (T.values samples.old) }
 {
-    for s in samples {
-        *s = T::of(0);
+    for i in 0..samples.len() {
+        samples[i] = T::of(0);
     }
 }
 

@@ -146,7 +146,7 @@ pub fn spread(runs: &[u8], lengths: &mut [u8])
 // ---- before the call
 
 // Which bits of what a byte of the planes must hold afterwards are lent flipped: none where a refusal of this number leaves memory
-// as found, else all.
+// as found, else all. A number and no enum, here and below: a case may store any, and each contract answers for every one.
 fn flip_of(number: u32) -> u8
     ensures { result ≡ flip_of number }
 {

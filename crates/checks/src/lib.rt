@@ -60,7 +60,8 @@ fn check_slice(a: SliceAt, len: usize, depth: usize, b: usize) -> Answer
 
 // ---- all slices
 
-// The first refusal of the slices in wire order. Each one's place is counted, since the indices alone say its plane.
+// The first refusal of the slices in wire order. Each one's place is counted, since the indices alone say its plane. The shortest lengths
+// (`Shortests`) are asked together with the geometry, below only where 9 and 10 refuse nothing, and so of no type.
 fn check_slices(frame: &[u8], g: SoundGeometry, shortest: [usize; 4]) -> Answer
     requires value { done ≡ in_order (slice_count g.of) (index_check frame.now g.of) }
     requires shortests { Shortests g.of shortest }

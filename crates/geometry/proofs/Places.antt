@@ -41,13 +41,21 @@ module _ (g : Geometry) (ok : Sound g) (p : ℕ) where
   unfolding geo.plane_slice_height
   slice_height_fits = side (small g p) g.slice_height g.sy ok.sliced ok.even_slices
 
--- there are at most four planes, and at least one
+-- there are at most four planes
 pub planes_most : (f : Family) → planes_of f ≤ 4
 planes_most Gray = omega arith
 planes_most Rgb = omega arith
 planes_most Yuv = omega arith
 planes_most Rgba = omega arith
 planes_most Yuva = omega arith
+
+-- and at least one
+pub planes_some : (f : Family) → 1 ≤ planes_of f
+planes_some Gray = omega arith
+planes_some Rgb = omega arith
+planes_some Yuv = omega arith
+planes_some Rgba = omega arith
+planes_some Yuva = omega arith
 
 -- ---- places
 

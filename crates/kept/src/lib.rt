@@ -16,18 +16,24 @@ use sample::Sample;
 
 // How the window stands: the 64 bits at the position `at`, moved up by the `gone` bits of the words that are taken out, and zeros below.
 #[derive(Clone, Copy)]
-struct Stand {
-    window: u64,
-    at: usize,
-    gone: usize,
+pub struct Stand {
+    pub window: u64,
+    pub at: usize,
+    pub gone: usize,
 }
 
 // What a group or a turn leaves: the window without its words, and how many they are.
 #[derive(Clone, Copy)]
-struct Taken {
-    stand: Stand,
-    count: usize,
+pub struct Taken {
+    pub stand: Stand,
+    pub count: usize,
 }
+
+// Of a group `at` is where its window began, and `gone` are the bits of all words out of it.
+pub type Group = Taken;
+
+// Of a turn `at` is where its last word begins, and `gone` are the bits of that word.
+pub type Turn = Taken;
 
 // Where a reading out of the window stands: behind its last word, and after how many.
 #[derive(Clone, Copy)]
@@ -94,7 +100,7 @@ pub fn entry(words: &[u32], m: usize, w: u64) -> u32
 // A group of words out of a window from which some bits are gone: as many as `out` has places, or as far as there are words. Each is shifted
 // out, so that the next one stands at the top. A length is below 64, so that the shift may go by six bits of the entry: a machine's shift
 // takes no more of them, and the next word waits for it.
-fn group<T: Sample>(table: &[u32], m: usize, payload: &[u8], from: Stand, out: &mut [T]) -> Taken
+fn group<T: Sample>(table: &[u32], m: usize, payload: &[u8], from: Stand, out: &mut [T]) -> Group
     requires m_nonzero { (0 < m) × (m ≤ 18) × Kept payload.now from.at from.window from.gone 0 m (length out.old) }
     requires readable { Readable (lookup_in table.now m payload.now) T.limit (from.at + from.gone) (length out.old) }
     ensures same { result.stand.at ≡ from.at }
@@ -138,9 +144,9 @@ fn last<T: Sample>(
     payload: &[u8],
     from: Stand,
     x: u64,
-    r: Taken,
+    r: Group,
     out: &mut [T],
-) -> Taken
+) -> Turn
     requires out_nonzero { (0 < length out.old) × (x ≡ top_bits payload.now (from.at + 64) (from.at % 8)) × (r.stand.at ≡ from.at) }
     requires turning { Turning table.now m payload.now T.limit (from.at + from.gone) from.at (length out.old - 1) (T.values out.old) r.stand.window r.stand.gone r.count }
     ensures read { Began (lookup_in table.now m payload.now) (from.at + from.gone) (T.values out.new) (result.stand.at + result.stand.gone) result.count }
@@ -173,7 +179,7 @@ fn last<T: Sample>(
 
 // A turn: a group and one word more, as many words as `out` has places; none where the payload has no sixteen bytes from the position's own byte
 // on. The bits that follow the window are loaded before the first word, since they hang on the position alone.
-fn turn<T: Sample>(table: &[u32], m: usize, payload: &[u8], from: Stand, out: &mut [T]) -> Taken
+fn turn<T: Sample>(table: &[u32], m: usize, payload: &[u8], from: Stand, out: &mut [T]) -> Turn
     requires m_nonzero { (0 < m) × (m ≤ 18) × (from.gone ≤ m) × (0 < length out.old) × ((length out.old + 1) * m ≤ 64) × (length out.old * m ≤ 56) }
     requires w_value { from.window ≡ top_bits payload.now (from.at + from.gone) from.gone }
     requires readable { Readable (lookup_in table.now m payload.now) T.limit (from.at + from.gone) (length out.old) }

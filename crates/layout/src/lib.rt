@@ -58,7 +58,7 @@ pub fn count_byte(frame: &[u8], g: SoundGeometry) -> usize
     number_at(frame, 32 + 4 * (t + 1))
 }
 
-// The plane that slice s names.
+// The plane that slice s names. That s is below T is asked beside the geometry, here and below, since T is that geometry's.
 pub fn plane_index(frame: &[u8], g: SoundGeometry, s: usize) -> usize
     requires { s < slice_count g.of }
     ensures { result ≡ plane_index frame.now g.of s }

@@ -59,6 +59,14 @@ yes_is r t e h = sym e ∙ not-false r h
 pub no_is : (r t : Bool) → r ≡ t → not r ≡ true → t ≡ false
 no_is r t e h = sym e ∙ not-true r h
 
+-- a test that says whether another one fails: it is false
+pub test_bad : (fits over : Bool) → fits ≡ not over → not fits ≡ true → over ≡ true
+test_bad fits over e a = not-false over (sym e ∙ not-true fits a)
+
+-- the same, found true
+pub test_good : (fits over : Bool) → fits ≡ not over → not fits ≡ false → (fits ≡ true) × (over ≡ false)
+test_good fits over e a = (not-false fits a, not-true over (sym e ∙ not-false fits a))
+
 -- ---- a number by a test
 
 -- a number by a test that was called, and found true or false

@@ -10,7 +10,9 @@ ghost use Rattle.scope.specs.Base.{zeros};
 pub fn clear_u32(words: &mut [u32])
     ensures { words.new ≡ zeros words.old }
 {
-    words.fill(0);
+    for i in 0..words.len() {
+        words[i] = 0;
+    }
 }
 
 // 2^depth, the modulus of every sum. It is a shift, so that a remainder by it is a mask once it is compiled.

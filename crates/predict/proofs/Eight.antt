@@ -1,5 +1,5 @@
--- At depth 8 what a row asks of the samples above it asks nothing: each byte is below 2^8. So `row` at u8 asks no more than that its row lies
--- in the list (document 01, "Prediction, slice by slice"). Assumes nothing.
+-- At depth 8 what a row asks of the samples above it at the depths above (`Above`) holds of every list, since each byte is below 2^8. So there a
+-- row asks nothing of them (`asked_of_eight`, specs/Asked.antt), and loses nothing by it. Document 01, "Prediction, slice by slice". Assumes nothing.
 use Prim.Native.Nat.{ℕ}
 use mathlib.Core.List.{List}
 use lib.ListN.{get_or}

@@ -6,8 +6,7 @@ use Rattle.scope.specs.Prediction.{gradient, median}
 use Rattle.memory.specs.Loop.{swept}
 use Rattle.sample.specs.Values.{ValuesLaws}
 use Rattle.sample.proofs.Values.{values-set, values-read}
-use Rattle.rows.specs.Rows.{leftward, across, Above, top_row, later_row}
-use Rattle.rows.proofs.Across.{above_set}
+use Rattle.rows.specs.Rows.{leftward, across, top_row, later_row}
 use Rattle.rows.proofs.Parts.{first_made, left_made, gradient_made, median_made}
 
 module _ {S : Type 0} {value : S → ℕ} {values : List S → List ℕ} (laws : ValuesLaws value values) (depth : ℕ) (s : List S) (start end : ℕ) (x v : S)
@@ -31,11 +30,13 @@ module _ {S : Type 0} {value : S → ℕ} {values : List S → List ℕ} (laws :
     column : value v ≡ (get_or (values s) start 0 + get_or (values s) (start - back) 0) % 2 ^ depth
     column = rw (residue, values-read laws s (start - back) y (omega arith) ey) at ev
 
-    -- the row f up is as it was, but for what is stored
-    pub above_stored : Above depth back (values s) (start + 1) end → Above depth back (values (set s start v)) (start + 1) end
-    above_stored b =
+    -- the row f up is as it was, but for what is stored: so what a width asks of it still holds
+    pub asked_stored : (Asked : ℕ → ℕ → List ℕ → ℕ → ℕ → Type 0)
+        → ((depth back : ℕ) (s : List ℕ) (start end i n v : ℕ) → Asked depth back s start end → v ≡ n % 2 ^ depth → Asked depth back (set s i v) start end)
+        → Asked depth back (values s) (start + 1) end → Asked depth back (values (set s start v)) (start + 1) end
+    asked_stored Asked asked_set b =
         rw (values-set laws s start v)
-        (above_set depth back (values s) (start + 1) end start (get_or (values s) start 0 + get_or (values s) (start - back) 0) (value v) b column)
+        (asked_set depth back (values s) (start + 1) end start (get_or (values s) start 0 + get_or (values s) (start - back) 0) (value v) b column)
 
     pub left_stored : (ys : List ℕ) → kind ≡ 1 → ys ≡ swept (leftward depth) (values (set s start v)) (start + 1) (end - (start + 1))
         → ys ≡ later_row depth kind back (values s) start end

@@ -1,3 +1,4 @@
 pub mod Raw
+pub mod Fills
 pub mod Unpacking
 pub mod Once

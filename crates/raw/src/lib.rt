@@ -39,7 +39,10 @@ pub fn raw_u8(payload: &[u8], first: usize, depth: usize, out: &mut [u8])
     requires raw_in { RawIn depth payload.now first (length out.old) }
     ensures { out.new ≡ raw_from depth payload.now first (length out.old) }
 {
-    out.copy_from_slice(&payload[first..first + out.len()]);
+    // No copy_from_slice: it is a call of memmove, a name that the archive would need from its host, and a row may be of one byte.
+    for (i, sample) in out.iter_mut().enumerate() {
+        *sample = payload[first + i];
+    }
 }
 
 // The depth bits of a number of 64 that end with its bit number `end`, counted from the highest.

@@ -40,6 +40,7 @@ trait Width: Listed {
     // A depth that the width's entry serves.
     const DEPTH: u32;
 
+    // The width's entry: the bodies below differ in its name alone. It is called from two places (docs/DECISIONS.md, 36).
     fn decode(
         g: Shape,
         frame: &[u8],

@@ -13,6 +13,7 @@ use Rattle.scope.specs.declared.Geometry.{Geometry}
 use Rattle.scope.specs.declared.SliceAt.{SliceAt}
 use Rattle.scope.specs.declared.Refusal.{Refusal}
 use Rattle.scope.specs.Found.{Found}
+use Rattle.scope.specs.declared.Place.{Place}
 use Rattle.scope.specs.declared.Place.TheVariants.{Slice, Plane}
 use Rattle.scope.specs.Answers.{Answer, done, refused, refusal}
 use Rattle.scope.specs.Pieces.{readable}
@@ -63,9 +64,9 @@ ended_symbols (stuck_at q) at e h = cc
 
 module _ (look : ℕ → Found) (depth : ℕ) (frame : List ℕ) (a : SliceAt) where
   -- 15: below Left, or above Median
-  pub no_kind : leb 1 a.predictor && leb a.predictor 3 ≡ false → refused 15 (Slice a.number) ≡ read_by look depth frame a
+  pub no_kind : leb 1 a.predictor && leb a.predictor 3 ≡ false → (n : ℕ) (p : Place) → n ≡ 15 → p ≡ Slice a.number → refused n p ≡ read_by look depth frame a
   unfolding read_by
-  no_kind h = rw h
+  no_kind h n p e f = rw (e, f, h) refl
 
 module _ {look : ℕ → Found} {depth : ℕ} {frame : List ℕ} {a : SliceAt} {r : Reached} {out : List ℕ} (kind : leb 1 a.predictor && leb a.predictor 3 ≡ true)
     (read : ResiduesRead look depth frame a r out) where

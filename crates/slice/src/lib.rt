@@ -33,7 +33,8 @@ fn raw_rows<T: ReadRaw>(payload: &[u8], depth: usize, s: &mut [T], rows: Rows)
     }
 }
 
-// The residues of a slice, raw or coded, into its rows, and where their reading ended.
+// The residues of a slice, raw or coded, into its rows, and where their reading ended. That the slice has room (`SliceIn`) is asked of the depth,
+// the frame and the record of one call, here and in `read`, and so of no type.
 fn residues<T: ReadRaw>(
     frame: &[u8],
     depth: usize,

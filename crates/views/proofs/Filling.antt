@@ -70,6 +70,10 @@ module _ (len w p h r : ℕ) (ok : Rowed len w p h) (k : r < h) where
   pub row_fits : Fits w64 (r * p)
   row_fits = record { fits = omega (arith, mul-le-mul_left r ok.most, ok.few) }
 
+  -- the first one as a place of 16-bit elements too
+  pub row_fits_2 : Fits w64 (r * p * 2)
+  row_fits_2 = record { fits = omega (arith, mul-le-mul_left r ok.most, ok.few) }
+
   pub row_end_fits : Fits w64 (r * p + w)
   row_end_fits = record { fits = omega (arith, mul-le-mul_left r ok.most, ok.few, ok.wide, ok.most) }
 

@@ -1,15 +1,15 @@
 -- `place` writes every symbol's word, in one pass over the lengths (document 01, "Words and lookup").
-use Rattle.builder.proofs.Filling.{filled_all}
+use Rattle.builder.proofs.Filling.{filled_all, filled_front, front_length}
 use Rattle.builder.proofs.Placing.{placed_start, length_below, symbol_asked, placed_step}
+use native.Mathlib.Omega.{arith}
 use borrow.Author.Rules.{rules}
 use Rattle.builder.proofs.place.Goals as goal
 
 pub loop-s-init : goal.loop-s-init
 loop-s-init c =
-    let a = c.args in (
-      placed_start a.lengths.now a.m a.ws.now c.fill.new.self a.first c.requires.0 c.requires.1 c.fill.ensures.len
-          (filled_all a.ws.now 0 c.fill.new.self (c.fill.ensures.after (λ y h. h))),
-      search rules,
+    let after = c.fill.ensures.after (λ y h. h) in (
+      search (placed_start, filled_all, filled_front, front_length, after, arith, rules),
+      search (front_length, arith, rules),
     )
 
 pub bounds-next-l : goal.bounds-next-l

@@ -1,6 +1,6 @@
 -- `decode::decode` meets its contract: what the lent checks answer, and what each way out leaves (document 01, "Refusal numbers"). Assumes
 -- nothing.
-use Rattle.std.proofs.Common.{◌≡◌, cond, sym, ◌∙◌, length}
+use Rattle.std.proofs.Common.{arith, rules, ◌≡◌, cond, sym, ◌∙◌, length}
 use Rattle.std.specs.Result.{is_err}
 use Rattle.std.proofs.lemmas.Result.{err_from_is_err_and}
 use Rattle.scope.specs.Base.{zeros}
@@ -8,7 +8,7 @@ use Rattle.scope.specs.Pieces.{lent_checks}
 use Rattle.sample.proofs.Values.{values-length}
 use Rattle.refusals.proofs.Outcomes.{out_early}
 use Rattle.picture.proofs.Entry.{lent_sound, lent_lengths, lent_planes, lent_served}
-use Rattle.decode.proofs.Outcomes.{left}
+use Rattle.decode.proofs.Outcomes.{left, cleared_part}
 use Rattle.decode.proofs.decode.Goals as goal
 use Rattle.decode.proofs.decode.Goals.{then-is_err, else-is_err}
 
@@ -48,5 +48,6 @@ returns g c =
     ]
     in
     left g.T.Width.ENTRY a.frame.now a.g a.lengths.now (values a.planes.now) a.workspace.now c.lent_checks.result said c.in_ok-lent_checks.was r.result r.ensures.answer
-    (values r.new.planes) r.new.workspace (values c.if-is_err.planes) c.clear_u32.new.words
-    (values-length laws _ ∙ r.auto.planes ∙ sym (values-length laws _)) r.auto.workspace r.ensures.planes cleared c.clear_u32.ensures
+    (values r.new.planes) r.new.workspace (values c.if-is_err.planes) _
+    (values-length laws _ ∙ r.auto.planes ∙ sym (values-length laws _)) r.auto.workspace r.ensures.planes cleared
+    (let gone = c.clear_u32.ensures in search (gone, cleared_part, arith, rules))

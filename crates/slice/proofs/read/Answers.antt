@@ -1,6 +1,6 @@
 -- `slice::read` meets its contract: 15 by the predictor byte, then what the reading of the residues says, and the samples that are rebuilt
 -- from them (document 01, "Refusal numbers" and "Prediction, slice by slice"). Assumes nothing.
-use Rattle.std.proofs.Common.{rules, ◌≡◌, true, false}
+use Rattle.std.proofs.Common.{rules, arith, ◌≡◌, true, false}
 use Rattle.std.specs.Prelude.{◌&&◌, leb}
 use Rattle.std.proofs.lemmas.Result.{err_from_is_err_and}
 use Rattle.slice.proofs.Answers.{no_kind, slice_refused, slice_read, slice_rebuilt}
@@ -9,7 +9,7 @@ use Rattle.slice.proofs.read.Goals as goal
 pub returns-then-not-contains-clause-answer : goal.returns-then-not-contains-clause-answer
 returns-then-not-contains-clause-answer g c =
     let kind : leb 1 c.args.a.predictor && leb c.args.a.predictor 3 ≡ false = search rules in
-    no_kind _ _ _ _ kind
+    no_kind _ _ _ _ kind _ _ (search (arith, rules)) (search rules)
 
 pub returns-in_err-map_err-clause-answer : goal.returns-in_err-map_err-clause-answer
 returns-in_err-map_err-clause-answer g c =

@@ -3,7 +3,8 @@
   imports    a name that a file imports and does not use;
   laws       a law of proofs/ or a definition of specs/ that nothing cites: its own file not outside its declaration, and no other file
              imports it (what a function's own folder in proofs/ proves is that function's proof, and a record's fields are its record's);
-  functions  a `pub` function that no other crate calls, or a method, of a type or of a public trait.
+  functions  a `pub` function that no other crate calls, or a method, of a type or of a public trait (called is a method where another crate's
+             text has `.name(` or the name behind its type, whoever's method that is).
   ends       a name in tools/theorems.txt that nothing declares.
 The theorems of proofs/Once.antt are ends in themselves, and so is what tools/theorems.txt names, a name a line.
 

@@ -40,7 +40,9 @@ pub fn words<T: Sample>(
     Ok(p)
 }
 
-// The words of a whole payload into rows: each row goes on at the bit position where the last one ended.
+// The words of a whole payload into rows: each row goes on at the bit position where the last one ended. Out of line, a call a slice: in one
+// function with the loop of raw samples these loops take up to a tenth more instructions (docs/DECISIONS.md, 53).
+#[inline(never)]
 pub fn words_rows<T: Sample>(
     table: &[u32],
     m: usize,

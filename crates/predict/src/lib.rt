@@ -7,8 +7,7 @@ ghost use Rattle.std.specs.Prelude.{◌≡◌, ℕ, ◌+◌, ◌-◌, ◌%◌, �
 ghost use Rattle.scope.specs.Prediction.{samples_of, gradient, median};
 ghost use Rattle.memory.specs.Loop.{swept};
 ghost use Rattle.rows.specs.Rows.{leftward, across, Above, top_row, later_row, row};
-ghost use Rattle.rows.proofs.Across.{above_set};
-ghost use Rattle.predict.specs.Asked.{asked_of_eight, eight_above, eight_set, deep_above};
+ghost use Rattle.predict.specs.Asked.{Asking, asks_above, asks_nothing};
 ghost use Rattle.views.specs.Places.{samples_at, gaps_at, rows_places, Rowed};
 
 use sample::Sample;
@@ -16,9 +15,9 @@ use views::Rows;
 
 // A width of samples with its loops over a row past column 0, one for each predictor.
 pub trait Predicted: Sample {
-    // What is asked of the samples of the row f up: at 8 bits nothing, at 16 bits that they are below 2^depth (`Above`). It relates a depth, a
-    // list and a row of it, and so is of no type.
-    ghost Asked: { ℕ → ℕ → List ℕ → ℕ → ℕ → Type 0 };
+    // What is asked of the samples of the row f up: at 8 bits nothing, at 16 bits, and where a width does not say, that they are below 2^depth
+    // (`Above`). It relates a depth, a list and a row of it, and so no type of a parameter says it.
+    ghost asking: { Asking } = { asks_above };
 
     // Adds the left sample across.
     fn left_row(s: &mut [Self], start: usize, end: usize, depth: usize)
@@ -29,7 +28,7 @@ pub trait Predicted: Sample {
     // Adds the gradient across.
     fn gradient_row(s: &mut [Self], start: usize, end: usize, back: usize, depth: usize)
         requires back_nonzero { (0 < back) × (back < start) × (start ≤ end) × (end ≤ length s.old) }
-        requires asked { Asked depth back (Self.values s.old) start end }
+        requires above { asking.Asked depth back (Self.values s.old) start end }
         requires depth_value { Self.Depth depth }
         ensures { Self.values s.new ≡ swept (across depth (gradient depth) back) (Self.values s.old) start (end - start) };
 
@@ -40,18 +39,14 @@ pub trait Predicted: Sample {
         ensures { Self.values s.new ≡ swept (across depth (median depth) back) (Self.values s.old) start (end - start) };
 
     // Samples below 2^depth are what is asked; and they still are where one below 2^depth is stored.
-    ghost asked_above: { (depth back : ℕ) (s : List ℕ) (start end : ℕ) → Above depth back s start end → Asked depth back s start end };
+    ghost asked_above: { (depth back : ℕ) (s : List ℕ) (start end : ℕ) → Above depth back s start end → asking.Asked depth back s start end } = { asking.asked_above };
 
-    ghost asked_set: { (depth back : ℕ) (s : List ℕ) (start end i n v : ℕ) → Asked depth back s start end → v ≡ n % 2 ^ depth → Asked depth back (set s i v) start end };
+    ghost asked_set: { (depth back : ℕ) (s : List ℕ) (start end i n v : ℕ) → asking.Asked depth back s start end → v ≡ n % 2 ^ depth → asking.Asked depth back (set s i v) start end } = { asking.asked_set };
 }
 
 // Depth 8: no loop reads the depth.
 impl Predicted for u8 {
-    ghost Asked = { asked_of_eight };
-
-    ghost asked_above = { eight_above };
-
-    ghost asked_set = { eight_set };
+    ghost asking = { asks_nothing };
 
     fn left_row(s: &mut [u8], start: usize, end: usize, depth: usize) {
         rows8::left_row_u8(s, start, end);
@@ -68,12 +63,6 @@ impl Predicted for u8 {
 
 // Depths 10, 12 and 14.
 impl Predicted for u16 {
-    ghost Asked = { Above };
-
-    ghost asked_above = { deep_above };
-
-    ghost asked_set = { above_set };
-
     fn left_row(s: &mut [u16], start: usize, end: usize, depth: usize) {
         rows16::left_row_u16(s, start, end, depth);
     }
@@ -108,7 +97,7 @@ fn later_row<T: Predicted>(
     depth: usize,
 )
     requires back_nonzero { (0 < back) × (back ≤ start) × (start < end) × (end ≤ length s.old) }
-    requires asked { T.Asked depth back (T.values s.old) (start + 1) end }
+    requires above { T.asking.Asked depth back (T.values s.old) (start + 1) end }
     requires depth_value { T.Depth depth }
     ensures { T.values s.new ≡ later_row depth kind back (T.values s.old) start end }
 {
@@ -123,7 +112,7 @@ fn later_row<T: Predicted>(
 // A row of either sort.
 pub fn row<T: Predicted>(kind: u8, s: &mut [T], start: usize, end: usize, back: usize, depth: usize)
     requires back_nonzero { (0 < back) × (start < end) × (end ≤ length s.old) }
-    requires asked { T.Asked depth back (T.values s.old) (start + 1) end }
+    requires above { T.asking.Asked depth back (T.values s.old) (start + 1) end }
     requires depth_value { T.Depth depth }
     ensures { T.values s.new ≡ row depth kind back (T.values s.old) start end }
 {

@@ -3,12 +3,12 @@ use Rattle.std.proofs.Common.{rules}
 use Rattle.predict.proofs.Stored.{asked_stored, left_stored, gradient_stored, median_stored}
 use Rattle.predict.proofs.later_row.Goals as goal
 
-pub gradient_row-requires-clause-asked : goal.gradient_row-requires-clause-asked
-gradient_row-requires-clause-asked g c =
+pub gradient_row-requires-clause-above : goal.gradient_row-requires-clause-above
+gradient_row-requires-clause-above g c =
     let a = c.args in
     let r = c.requires.back_nonzero in
     asked_stored g.met.T.Sample.laws a.depth a.s.now a.start a.end c.index-s-start.result c.sum.result r.2 r.3 c.index-s-start.is
-    a.kind a.back c.index-s-start-2.result c.index-s-start-2.is c.sum.ensures _ g.met.T.Predicted.asked_set c.requires.asked
+    a.kind a.back c.index-s-start-2.result c.index-s-start-2.is c.sum.ensures _ g.met.T.Predicted.asked_set c.requires.above
 
 pub returns-in-1 : goal.returns-in-1
 returns-in-1 g c =

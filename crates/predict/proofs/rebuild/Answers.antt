@@ -9,8 +9,8 @@ loop-r-init g c =
     let a = c.args in
     rebuilds_start a.depth a.kind a.rows.width a.rows.pitch a.rows.count a.f _
 
-pub row-requires-clause-asked : goal.row-requires-clause-asked
-row-requires-clause-asked g c =
+pub row-requires-clause-above : goal.row-requires-clause-above
+row-requires-clause-above g c =
     let a = c.args in
     let t = c.loop-r in
     g.met.T.Predicted.asked_above _ _ _ _ _ (rebuilds_above a.depth a.kind a.rows.width a.rows.pitch a.rows.count a.f _ _ t.r t.invariant
